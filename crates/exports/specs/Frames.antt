@@ -1,0 +1,43 @@
+-- Frames by plain numbers: an identifier is its format and its number, a frame a slice that must be 13 bytes long.
+-- Source: the outline, "What changes shape"; docs/ABI.md.
+use Prim.Native.Nat.{ℕ, min}
+use mathlib.Core.Bool.{Bool, true, false}
+use mathlib.Core.List.{List}
+use lib.ListN.{length}
+use Rattle.laws.specs.Said.{Said, refuses, gives}
+use Rattle.identifiers.specs.declared.Id.{Id}
+use Rattle.identifiers.specs.declared.Id.the-variants.{Standard, Extended}
+use Rattle.frames.specs.Buffer.{Frame, bufferOf}
+use Rattle.frames.specs.Building.{judged}
+use Rattle.exports.specs.Answers.{whole, laying, written}
+
+-- the identifier that building is handed: what no u16 holds becomes the largest that one does, which is above the limit too
+abbrev pub idFrom : Bool → ℕ → Id
+idFrom true raw = Extended (record { 0 = raw })
+idFrom false raw = Standard (record { 0 = min raw 0xFFFF })
+
+abbrev pub plain : Bool → ℕ → Bool → Bool → ℕ → List ℕ → Frame
+plain extended id remote own code payload =
+    record { extended = extended; remote = remote; own = own; code = code; id = id; payload = payload }
+
+abbrev pub plainData : Bool → ℕ → Bool → List ℕ → Frame
+plainData extended id own payload = plain extended id false own (length payload) payload
+
+-- building into a lent frame, whose place among the arguments is given
+abbrev pub building : ℕ → List ℕ → Frame → Said ℕ
+building argument frame f = whole argument frame (judged f)
+
+abbrev pub buildingLeaves : ℕ → List ℕ → Frame → List ℕ
+buildingLeaves argument frame f = written (building argument frame f) (bufferOf f) frame
+
+-- an identifier without its format
+abbrev pub numberSaid : Said (Bool × ℕ) → Said ℕ
+numberSaid (gives id) = gives (id .1)
+numberSaid (refuses number carried) = refuses number carried
+
+-- a part of a frame, laid into a lent output
+abbrev pub taking : List ℕ → List ℕ → List ℕ → Said ℕ
+taking bytes frame out = whole 0 frame (laying bytes out)
+
+abbrev pub takingLeaves : List ℕ → List ℕ → List ℕ → List ℕ
+takingLeaves bytes frame out = written (taking bytes frame out) bytes out

@@ -1,0 +1,14 @@
+-- The buffers that building can make: nothing stands where no field does, and a remote frame has length code 0.
+-- Source: the outline, "Frame buffer": all else is zero; the Rust refuses a remote frame with a code.
+use Prim.Native.Nat.{ℕ, _+_, _-_}
+use mathlib.Core.Path.{_≡_}
+use mathlib.Core.Bool.{true}
+use mathlib.Core.List.{List}
+use lib.ListN.{getD, drop, replicate}
+use Rattle.frames.specs.Buffer.{infoOf, extendedOf, remoteOf, codeOf, idFields, dataOffsetOf, dataLengthOf}
+
+pub record Clean (b : List ℕ) : Type 0 where
+  pub reserved-bit : getD (infoOf b) 2 0 ≡ 0
+  pub spare-bits : getD (idFields (extendedOf b) b) 1 0 ≡ 0
+  pub after-data : drop (dataOffsetOf b + dataLengthOf b) b ≡ replicate (13 - (dataOffsetOf b + dataLengthOf b)) 0
+  pub remote-code : remoteOf b ≡ true → codeOf b ≡ 0

@@ -1,0 +1,4 @@
+pub mod Buffer
+pub mod Building
+pub mod Reading
+pub mod Clean

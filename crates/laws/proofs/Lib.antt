@@ -1,0 +1,5 @@
+pub mod Row
+pub mod Only
+pub mod Tabulate
+pub mod Bools
+pub mod Copy

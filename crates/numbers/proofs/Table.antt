@@ -1,0 +1,16 @@
+-- Every row of the table holds: the definitions compute what the outline says. Assumes nothing.
+use mathlib.Core.Path.{_≡_, refl}
+use mathlib.Core.List.{map}
+use Rattle.frames.specs.Buffer.{bufferOf, dataLengthOf, dataOf}
+use Rattle.frames.specs.Building.{judgeOf, buildOf}
+use Rattle.numbers.specs.Table.{Row, Answered, rows}
+
+abbrev pub definition : Row → Answered
+definition r = r .definition
+
+abbrev pub outline : Row → Answered
+outline r = r .outline
+
+pub numbers-hold : map definition rows ≡ map outline rows
+unfolding bufferOf dataLengthOf dataOf judgeOf buildOf
+numbers-hold = refl

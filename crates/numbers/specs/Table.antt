@@ -1,0 +1,54 @@
+-- The outline's numbers: for each, what the definitions answer and what the outline says.
+-- Source: the outline, "Numbers to check".
+use Prim.Native.Nat.{ℕ}
+use mathlib.Core.Bool.{Bool, true, false}
+use mathlib.Core.List.{List, [], _∷_}
+use lib.ListN.{replicate}
+use Rattle.laws.specs.Said.{Said, refuses, gives}
+use Rattle.laws.specs.Tabulate.{part}
+use Rattle.identifiers.specs.Answers.{baseOf}
+use Rattle.frames.specs.Buffer.{Frame, bufferOf, dataOf}
+use Rattle.frames.specs.Building.{buildOf, judged}
+
+-- an answer, and bytes that it comes with
+abbrev pub Answered : Type 0
+Answered = Said ℕ × List ℕ
+
+pub record Row : Type 0 where
+  pub definition : Answered
+  pub outline : Answered
+
+abbrev row : Answered → Answered → Row
+row d o = record { definition = d; outline = o }
+
+abbrev frame : Bool → ℕ → Bool → ℕ → List ℕ → Frame
+frame extended id remote code payload =
+    record { extended = extended; remote = remote; own = false; code = code; id = id; payload = payload }
+
+abbrev standard : ℕ → ℕ → List ℕ → Frame
+standard id code payload = frame false id false code payload
+
+abbrev zeros : ℕ → List ℕ
+zeros n = replicate n 0
+
+abbrev eight : List ℕ
+eight = 1 ∷ 2 ∷ 3 ∷ 4 ∷ 5 ∷ 6 ∷ 7 ∷ 8 ∷ []
+
+abbrev pub rows : List Row
+rows =
+    -- P1
+    row (buildOf (standard 0x7FF 0 [])) (gives 13, 0x00 ∷ 0xFF ∷ 0xE0 ∷ zeros 10)
+    ∷ row (buildOf (standard 0x800 0 [])) (refuses 1 0, zeros 13)
+    -- P2
+    ∷ row (gives 4, part (bufferOf (frame true 0x1234_5678 false 0 [])) 1 4) (gives 4, 0x91 ∷ 0xA2 ∷ 0xB3 ∷ 0xC0 ∷ [])
+    ∷ row (baseOf 0x1234_5678, []) (gives 0x48D, [])
+    -- P3
+    ∷ row (judged (standard 1 15 eight), dataOf (bufferOf (standard 1 15 eight))) (gives 13, eight)
+    ∷ row (buildOf (standard 1 16 eight)) (refuses 3 16, zeros 13)
+    -- P4
+    ∷ row (buildOf (standard 1 8 (replicate 7 1))) (refuses 3 8, zeros 13)
+    -- P5
+    ∷ row (buildOf (standard 1 99 (replicate 264 1))) (refuses 2 8, zeros 13)
+    -- P6
+    ∷ row (buildOf (frame false 1 true 1 [])) (refuses 3 1, zeros 13)
+    ∷ []

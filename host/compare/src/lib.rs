@@ -1,0 +1,2 @@
+//! The library of this repository beside the driver.
+pub mod library;

@@ -1,0 +1,36 @@
+//! One question for both sides.
+
+#[derive(Debug, Clone, PartialEq, Eq)]
+pub enum Case {
+    StandardId(u16),
+    ExtendedId(u32),
+    /// The base identifier of an extended one.
+    BaseId(u32),
+    Build(Build),
+    Read(Read),
+}
+
+#[derive(Debug, Clone, PartialEq, Eq)]
+pub struct Build {
+    pub constructor: Constructor,
+    pub extended: bool,
+    pub id: u32,
+    pub data: Vec<u8>,
+    /// The length of the slice that is lent for the frame.
+    pub room: usize,
+}
+
+#[derive(Debug, Clone, Copy, PartialEq, Eq)]
+pub enum Constructor {
+    NewFromParameters { remote_request: bool, self_reception: bool, dlc: usize },
+    New,
+    NewSelfReception,
+}
+
+/// Every reader, of one frame.
+#[derive(Debug, Clone, PartialEq, Eq)]
+pub struct Read {
+    pub frame: Vec<u8>,
+    /// The length of the slice that is lent for the bytes read.
+    pub room: usize,
+}

@@ -1,0 +1,43 @@
+//! The functions of docs/ABI.md, by their names there without the prefix, as a table that each side fills.
+use crate::answer::Answer;
+
+pub const FRAME_LENGTH: usize = 13;
+
+type Constructor = unsafe extern "C" fn(
+    extended: bool,
+    id: u32,
+    data: *const u8,
+    data_length: usize,
+    frame: *mut u8,
+    frame_length: usize,
+) -> Answer;
+type Reader = unsafe extern "C" fn(frame: *const u8, frame_length: usize) -> Answer;
+type Copier = unsafe extern "C" fn(frame: *const u8, frame_length: usize, out: *mut u8, out_length: usize) -> Answer;
+
+pub struct Face {
+    pub standard_id_new: unsafe extern "C" fn(raw: u16) -> Answer,
+    pub extended_id_new: unsafe extern "C" fn(raw: u32) -> Answer,
+    pub extended_id_standard_id: unsafe extern "C" fn(raw: u32) -> Answer,
+    pub new_from_parameters: unsafe extern "C" fn(
+        extended: bool,
+        id: u32,
+        remote_request: bool,
+        self_reception: bool,
+        dlc: usize,
+        data: *const u8,
+        data_length: usize,
+        frame: *mut u8,
+        frame_length: usize,
+    ) -> Answer,
+    pub new: Constructor,
+    pub new_self_reception: Constructor,
+    pub is_extended_format: Reader,
+    pub is_remote_request: Reader,
+    pub is_self_reception: Reader,
+    pub data_length_code: Reader,
+    pub data_length: Reader,
+    pub data_offset: Reader,
+    pub identifier: Reader,
+    pub data: Copier,
+    pub as_slice: Copier,
+}

@@ -1,0 +1,105 @@
+//! What one side does with a case: its answers, and every byte of what it was lent.
+use crate::{
+    answer::Answer,
+    case::{Build, Case, Constructor, Read},
+    face::Face,
+};
+
+/// What every lent byte holds before a call.
+const FILL: u8 = 0xA5;
+/// More than the longest slice that a case lends, to see a write past its end.
+const LENT_LENGTH: usize = 48;
+
+#[derive(Debug, PartialEq, Eq)]
+pub enum Outcome {
+    Number(Answer),
+    Built(Lending),
+    Read(Readings),
+}
+
+#[derive(Debug, PartialEq, Eq)]
+pub struct Lending {
+    pub answer: Answer,
+    pub lent: [u8; LENT_LENGTH],
+}
+
+#[derive(Debug, PartialEq, Eq)]
+pub struct Readings {
+    pub extended: Answer,
+    pub remote_request: Answer,
+    pub self_reception: Answer,
+    pub code: Answer,
+    pub length: Answer,
+    pub offset: Answer,
+    pub identifier: Answer,
+    pub data: Lending,
+    pub used: Lending,
+}
+
+impl Outcome {
+    pub fn of(face: &Face, case: &Case) -> Self {
+        match case {
+            Case::StandardId(raw) => Outcome::Number(unsafe { (face.standard_id_new)(*raw) }),
+            Case::ExtendedId(raw) => Outcome::Number(unsafe { (face.extended_id_new)(*raw) }),
+            Case::BaseId(raw) => Outcome::Number(unsafe { (face.extended_id_standard_id)(*raw) }),
+            Case::Build(build) => Outcome::Built(Lending::of_build(face, build)),
+            Case::Read(read) => Outcome::Read(Readings::of(face, read)),
+        }
+    }
+
+    /// Whether each refusal left what was lent as it was.
+    pub fn refusals_write_nothing(&self) -> bool {
+        match self {
+            Outcome::Number(_) => true,
+            Outcome::Built(lending) => lending.refusal_writes_nothing(),
+            Outcome::Read(readings) => readings.data.refusal_writes_nothing() && readings.used.refusal_writes_nothing(),
+        }
+    }
+}
+
+impl Lending {
+    fn of(room: usize, call: impl FnOnce(&mut [u8]) -> Answer) -> Self {
+        let mut lent = [FILL; LENT_LENGTH];
+        let answer = call(&mut lent[..room]);
+        Lending { answer, lent }
+    }
+
+    fn of_build(face: &Face, build: &Build) -> Self {
+        let Build { extended, id, ref data, room, .. } = *build;
+        let (start, length) = (data.as_ptr(), data.len());
+        Lending::of(room, |frame| {
+            let (frame, room) = (frame.as_mut_ptr(), frame.len());
+            match build.constructor {
+                Constructor::NewFromParameters { remote_request, self_reception, dlc } => unsafe {
+                    let function = face.new_from_parameters;
+                    function(extended, id, remote_request, self_reception, dlc, start, length, frame, room)
+                },
+                Constructor::New => unsafe { (face.new)(extended, id, start, length, frame, room) },
+                Constructor::NewSelfReception => unsafe {
+                    (face.new_self_reception)(extended, id, start, length, frame, room)
+                },
+            }
+        })
+    }
+
+    fn refusal_writes_nothing(&self) -> bool {
+        !self.answer.is_refusal() || self.lent == [FILL; LENT_LENGTH]
+    }
+}
+
+impl Readings {
+    fn of(face: &Face, read: &Read) -> Self {
+        let (start, length) = (read.frame.as_ptr(), read.frame.len());
+        Readings {
+            extended: unsafe { (face.is_extended_format)(start, length) },
+            remote_request: unsafe { (face.is_remote_request)(start, length) },
+            self_reception: unsafe { (face.is_self_reception)(start, length) },
+            code: unsafe { (face.data_length_code)(start, length) },
+            length: unsafe { (face.data_length)(start, length) },
+            offset: unsafe { (face.data_offset)(start, length) },
+            identifier: unsafe { (face.identifier)(start, length) },
+            data: Lending::of(read.room, |out| unsafe { (face.data)(start, length, out.as_mut_ptr(), out.len()) }),
+            used: Lending::of(read.room, |out| unsafe { (face.as_slice)(start, length, out.as_mut_ptr(), out.len()) }),
+        }
+    }
+}

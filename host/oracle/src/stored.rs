@@ -1,0 +1,87 @@
+//! Answers as lines of text: a letter, then columns of lower-case hexadecimal digits.
+use crate::{
+    answer::Answer,
+    case::{Build, Case, Constructor, Read},
+    face::FRAME_LENGTH,
+    outcome::{Lending, Outcome, Readings},
+};
+
+/// What the lines mean, as the comment that stands before them.
+pub const LEGEND: &str = "\
+# Answers of the Rust driver (esp-hal 1.2.2, src/twai/mod.rs), unchanged, in the form of docs/ABI.md.
+# Made by host/answers.
+# A line is a letter and columns of hexadecimal digits, two a byte, high byte first; in brackets: a column's bytes.
+# An answer is two columns, NUMBER (1) and VALUE (8). FRAME after an answer is the lent buffer after the call; before
+# it, each of its bytes was a5. An empty DATA leaves two spaces in a row, or nothing at the end of a line.
+# s RAW(2) NUMBER VALUE: standard_id_new
+# e RAW(4) NUMBER VALUE: extended_id_new
+# t RAW(4) NUMBER VALUE: extended_id_standard_id
+# b EXTENDED(1) ID(4) REMOTE(1) SELF(1) DLC(8) LENGTH(2) DATA(LENGTH) NUMBER VALUE FRAME(13): new_from_parameters
+# n EXTENDED(1) ID(4) LENGTH(2) DATA(LENGTH) NUMBER VALUE FRAME(13): new
+# m EXTENDED(1) ID(4) LENGTH(2) DATA(LENGTH) NUMBER VALUE FRAME(13): new_self_reception
+# r FRAME(13) EXTENDED(1) REMOTE(1) SELF(1) CODE(1) LENGTH(1) OFFSET(1) ID(4) USED(1) DATA(LENGTH): all readers
+#   of these 13 bytes; USED is how many of them as_slice gives
+";
+
+/// The line for a case and what came of it; none for an outcome of another kind than the case.
+pub fn line(case: &Case, outcome: &Outcome) -> Option<String> {
+    let columns = match (case, outcome) {
+        (Case::StandardId(raw), Outcome::Number(answer)) => number_columns("s", hex(u64::from(*raw), 2), answer),
+        (Case::ExtendedId(raw), Outcome::Number(answer)) => number_columns("e", hex(u64::from(*raw), 4), answer),
+        (Case::BaseId(raw), Outcome::Number(answer)) => number_columns("t", hex(u64::from(*raw), 4), answer),
+        (Case::Build(build), Outcome::Built(lending)) => build_columns(build, lending),
+        (Case::Read(read), Outcome::Read(readings)) => read_columns(read, readings),
+        _ => return None,
+    };
+    Some(columns.join(" ").trim_end().to_string())
+}
+
+fn number_columns(letter: &str, raw: String, answer: &Answer) -> Vec<String> {
+    let [number, value] = answer_columns(answer);
+    vec![letter.to_string(), raw, number, value]
+}
+
+fn build_columns(build: &Build, lending: &Lending) -> Vec<String> {
+    let letter = match build.constructor {
+        Constructor::NewFromParameters { .. } => "b",
+        Constructor::New => "n",
+        Constructor::NewSelfReception => "m",
+    };
+    let mut columns = vec![letter.to_string(), hex(u64::from(build.extended), 1), hex(u64::from(build.id), 4)];
+    if let Constructor::NewFromParameters { remote_request, self_reception, dlc } = build.constructor {
+        columns.extend([hex(u64::from(remote_request), 1), hex(u64::from(self_reception), 1), hex(dlc as u64, 8)]);
+    }
+    columns.extend([hex(build.data.len() as u64, 2), hex_of_bytes(&build.data)]);
+    columns.extend(answer_columns(&lending.answer));
+    columns.push(hex_of_bytes(&lending.lent[..FRAME_LENGTH]));
+    columns
+}
+
+fn read_columns(read: &Read, readings: &Readings) -> Vec<String> {
+    let length = readings.length.value as usize;
+    vec![
+        "r".to_string(),
+        hex_of_bytes(&read.frame),
+        hex(readings.extended.value, 1),
+        hex(readings.remote_request.value, 1),
+        hex(readings.self_reception.value, 1),
+        hex(readings.code.value, 1),
+        hex(readings.length.value, 1),
+        hex(readings.offset.value, 1),
+        hex(readings.identifier.value, 4),
+        hex(readings.used.answer.value, 1),
+        hex_of_bytes(&readings.data.lent[..length]),
+    ]
+}
+
+fn answer_columns(answer: &Answer) -> [String; 2] {
+    [hex(u64::from(answer.number), 1), hex(answer.value, 8)]
+}
+
+fn hex(value: u64, bytes: usize) -> String {
+    format!("{value:0digits$x}", digits = 2 * bytes)
+}
+
+fn hex_of_bytes(bytes: &[u8]) -> String {
+    bytes.iter().map(|byte| format!("{byte:02x}")).collect()
+}

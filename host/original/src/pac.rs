@@ -1,0 +1,2 @@
+//! The driver's view of the registers.
+pub mod twai0;
