@@ -6,13 +6,13 @@ use mathlib.Core.Bool.{Bool, true, false, cond}
 use mathlib.Core.List.{List, [], _∷_, _++_, append-assoc}
 use lib.ListN.{length-replicate, length, drop, replicate}
 use lib.Seq.{paste, take-append-seam, take-length, drop-append-add, drop-nil}
-use native.Mathlib.Nat.{zero-sub, suc-sub-suc, sub-zero}
+use native.Mathlib.Nat.{add-zero, zero-sub, suc-sub-suc, sub-zero}
 use native.Mathlib.Omega.{arith}
 use Rattle.laws.specs.Said.{Said}
 use Rattle.laws.specs.Row.{pack, bytes}
 use Rattle.laws.proofs.Row.{unpack-length}
 use Rattle.identifiers.specs.Answers.{newOf}
-use Rattle.frames.specs.Buffer.{Frame, idRow, infoByte, frontOf, bufferOf, idBytes, idBytesOf, dataStart, extendedOf, remoteOf, codeOf, idIn, dataLengthOf, dataOffsetOf}
+use Rattle.frames.specs.Buffer.{Frame, idRow, infoByte, bufferOf, idBytes, idBytesOf, dataStart, extendedOf, remoteOf, codeOf, idIn, dataLengthOf, dataOffsetOf}
 use Rattle.frames.specs.Reading.{withFormat, identifierIn, identifierOf}
 
 pub start-bound : (format : Bool) → dataStart format ≤ 5
@@ -44,21 +44,26 @@ pasted front payload n room h =
 ids-length : (format : Bool) (id : ℕ) → length (idBytesOf format id) ≡ idBytes format
 ids-length format id = unpack-length (bytes (idBytes format)) (pack (idRow format) (id ∷ 0 ∷ [])) ∙ length-replicate (idBytes format) 8
 
-pub fronted : (format : Bool) (id : ℕ) (remote own : Bool) (code first : ℕ) (ids : List ℕ) → first ≡ infoByte format remote own code
-    → ids ≡ idBytesOf format id → first ∷ (ids ++ replicate (13 - dataStart format) 0) ≡ frontOf format id remote own code
-unfolding frontOf
-fronted format id remote own code first ids byte same = rw (byte, same)
+-- a frame without data
+abbrev pub emptied : Frame → Frame
+emptied f =
+    record { extended = f .extended; remote = f .remote; own = f .own; code = f .code; id = f .id; payload = [] }
 
--- a frame's data pasted into its front are its buffer
-pub filled : (f : Frame)
-    → paste (frontOf (f .extended) (f .id) (f .remote) (f .own) (f .code)) (dataStart (f .extended)) (f .payload) (length (f .payload)) ≡ bufferOf f
-unfolding frontOf bufferOf
+-- its buffer, spelt out
+pub fronted : (f : Frame) (first : ℕ) (ids : List ℕ) → first ≡ infoByte (f .extended) (f .remote) (f .own) (f .code)
+    → ids ≡ idBytesOf (f .extended) (f .id) → first ∷ (ids ++ replicate (13 - dataStart (f .extended)) 0) ≡ bufferOf (emptied f)
+unfolding bufferOf
+fronted f first ids byte same = rw (byte, same, add-zero (dataStart (f .extended)))
+
+-- a frame's data pasted into the buffer without data are its buffer
+pub filled : (f : Frame) → paste (bufferOf (emptied f)) (dataStart (f .extended)) (f .payload) (length (f .payload)) ≡ bufferOf f
+unfolding bufferOf
 filled f =
     let start = dataStart (f .extended) in
     let front-length : length (infoByte (f .extended) (f .remote) (f .own) (f .code) ∷ idBytesOf (f .extended) (f .id)) ≡ start =
     rw (ids-length (f .extended) (f .id)) (omega arith) in
-    let rest : 13 - start - length (f .payload) ≡ 13 - (start + length (f .payload)) = omega arith in
-    pasted (infoByte (f .extended) (f .remote) (f .own) (f .code) ∷ idBytesOf (f .extended) (f .id)) (f .payload) start (13 - start)
+    let rest : 13 - (start + 0) - length (f .payload) ≡ 13 - (start + length (f .payload)) = omega arith in
+    pasted (infoByte (f .extended) (f .remote) (f .own) (f .code) ∷ idBytesOf (f .extended) (f .id)) (f .payload) start (13 - (start + 0))
     front-length
     ∙ rw rest
 

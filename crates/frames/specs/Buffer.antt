@@ -41,11 +41,6 @@ infoByte extended remote own code = pack infoRow (bit extended ∷ bit remote �
 abbrev pub idBytesOf : Bool → ℕ → List ℕ
 idBytesOf format id = regroup (idRow format) (bytes (idBytes format)) (id ∷ 0 ∷ [])
 
--- the buffer of a frame without data
-unfoldable pub frontOf : Bool → ℕ → Bool → Bool → ℕ → List ℕ
-frontOf extended id remote own code =
-    infoByte extended remote own code ∷ (idBytesOf extended id ++ replicate (13 - dataStart extended) 0)
-
 -- the buffer of a frame: all that no field takes is zero
 unfoldable pub bufferOf : Frame → List ℕ
 bufferOf f =

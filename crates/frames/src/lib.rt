@@ -1,12 +1,13 @@
 // Frames: the 13-byte buffer of a frame, built from what the frame says and read back.
 ghost use mathlib.Core.Path.{_≡_};
 ghost use mathlib.Core.Bool.{true, false};
+ghost use mathlib.Core.List.{[]};
 ghost use Prim.Native.Nat.{_-_, _%_, _≤_, _<_};
 ghost use lib.ListN.{length};
 ghost use lib.Seq.{paste};
 ghost use Rattle.laws.specs.Row.{bit};
 ghost use Rattle.identifiers.specs.Limits.{limitOf, isExtended, rawOf};
-ghost use Rattle.frames.specs.Buffer.{dataStart, infoByte, frontOf, extendedOf, remoteOf, ownOf, codeOf, idIn, dataLengthOf, dataOffsetOf, dataOf, usedOf};
+ghost use Rattle.frames.specs.Buffer.{dataStart, infoByte, bufferOf, extendedOf, remoteOf, ownOf, codeOf, idIn, dataLengthOf, dataOffsetOf, dataOf, usedOf};
 ghost use Rattle.frames.specs.Building.{invalidLength, nonCompliant, judgeOf, buildOf, buildingSaid, builtSaid, asked, askedData};
 ghost use Rattle.frames.specs.Reading.{identifierOf, identifiedSaid};
 use identifiers::ExtendedId;
@@ -96,10 +97,10 @@ fn low_byte(n: u32) -> u8
     (n % 256) as u8
 }
 
-// The first byte and the identifier's, and zeros behind them.
+// The buffer of a frame without data.
 fn front(id: Id, remote: bool, own: bool, code: u8) -> [u8; 13]
     requires { ⌜ (rawOf id ≤ limitOf (isExtended id)) × (code < 16) ⌝ }
-    ensures { λ r. ⌜ r ≡ frontOf (isExtended id) (rawOf id) remote own code ⌝ }
+    ensures { λ r. ⌜ r ≡ bufferOf (asked id remote own code []) ⌝ }
 {
     match id {
         Id::Standard(standard) => {

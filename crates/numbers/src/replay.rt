@@ -170,7 +170,7 @@ fn line_of(line: &[u8; 1280], used: usize) -> &[u8] {
 }
 
 impl Progress {
-    pub fn new() -> Progress {
+    pub(crate) fn new() -> Progress {
         Progress {
             line: [0; 1280],
             used: 0,
@@ -208,7 +208,7 @@ impl Progress {
         next
     }
 
-    pub fn after(self, bytes: &[u8]) -> Progress {
+    pub(crate) fn after(self, bytes: &[u8]) -> Progress {
         let mut next = self;
         let mut i = 0;
         while i < bytes.len() {

@@ -37,7 +37,7 @@ fn put_digit(value: u8, digits: usize, out: &mut [u8; 640]) -> usize
 }
 
 // The bytes of a line's digits, two to a byte, whatever stands between them; answers how many.
-pub fn decode(line: &[u8], out: &mut [u8; 640]) -> usize {
+pub(crate) fn decode(line: &[u8], out: &mut [u8; 640]) -> usize {
     let mut digits: usize = 0;
     let mut i = 0;
     while i < line.len() {
@@ -48,7 +48,7 @@ pub fn decode(line: &[u8], out: &mut [u8; 640]) -> usize {
 }
 
 // The byte at a place, 0 past the end.
-pub fn byte(bytes: &[u8], at: usize) -> u8 {
+pub(crate) fn byte(bytes: &[u8], at: usize) -> u8 {
     if at < bytes.len() {
         return bytes[at];
     }
@@ -56,14 +56,14 @@ pub fn byte(bytes: &[u8], at: usize) -> u8 {
 }
 
 // The part from a place on, of that length or what there is of it.
-pub fn part(bytes: &[u8], from: usize, count: usize) -> &[u8] {
+pub(crate) fn part(bytes: &[u8], from: usize, count: usize) -> &[u8] {
     let start = least(from, bytes.len());
     let end = start + least(count, bytes.len() - start);
     &bytes[start..end]
 }
 
 // The bytes that `decode` made.
-pub fn decoded(bytes: &[u8; 640], count: usize) -> &[u8] {
+pub(crate) fn decoded(bytes: &[u8; 640], count: usize) -> &[u8] {
     part(bytes, 0, count)
 }
 
@@ -74,7 +74,7 @@ fn least(a: usize, b: usize) -> usize
 }
 
 // A number of so many bytes, the high byte first.
-pub fn number(bytes: &[u8], from: usize, count: usize) -> u64 {
+pub(crate) fn number(bytes: &[u8], from: usize, count: usize) -> u64 {
     let column = part(bytes, from, count);
     let mut n: u64 = 0;
     let mut i = 0;

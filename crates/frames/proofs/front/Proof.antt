@@ -1,14 +1,17 @@
 -- `frames::front` meets its contract: the identifier's word is the row of its format. Assumes nothing.
 use mathlib.Core.Path.{ap, sym, _∙_}
-use mathlib.Core.Bool.{true, false}
+use mathlib.Core.List.{[]}
 use native.Mathlib.Omega.{arith}
 use borrow.Author.Needs.{needs}
+use Rattle.identifiers.specs.declared.Id.the-variants.{Standard, Extended}
 use Rattle.identifiers.specs.declared.Id.{Id}
-use Rattle.identifiers.specs.Limits.{isExtended, rawOf}
-use Rattle.frames.specs.Buffer.{frontOf}
+use Rattle.frames.specs.Buffer.{bufferOf}
+use Rattle.frames.specs.Building.{asked}
 use Rattle.frames.proofs.Buffer.{fronted, standard-bytes, extended-bytes}
 use Rattle.frames.proofs.front.Statement.{statement}
 use Rattle.frames.proofs.front.Tie as tie
+
+-- `frames::front` meets its contract: the identifier's word is the row of its format. Assumes nothing.
 
 enum-known-id : tie.Need-enum-known-id
 enum-known-id c = search needs
@@ -54,16 +57,18 @@ low-byte-requires-6 c κs = search needs
 returns : tie.Need-returns
 returns c =
     let small = rw (c .before .before .before .before .before .id .given .1) at (c .before .before .before .before .before .before .before .pre .0) in
-    let ids = standard-bytes (c .before .before .before .before .before .id .given .0 .0 .0) (c .before .low-byte .result) (c .low-byte2 .result) small (c .before .low-byte .ensures) (c .low-byte2 .ensures) in
-    fronted false _ (c .before .before .before .before .before .before .before .args .remote) (c .before .before .before .before .before .before .before .args .own) (c .before .before .before .before .before .before .before .args .code) _ _ (c .before .before .info .ensures) ids
-    ∙ ap (λ (i : Id). frontOf (isExtended i) (rawOf i) (c .before .before .before .before .before .before .before .args .remote) (c .before .before .before .before .before .before .before .args .own) (c .before .before .before .before .before .before .before .args .code)) (sym (c .before .before .before .before .before .id .given .1))
+    let raw = c .before .before .before .before .before .id .given .0 .0 .0 in
+    let ids = standard-bytes raw (c .before .low-byte .result) (c .low-byte2 .result) small (c .before .low-byte .ensures) (c .low-byte2 .ensures) in
+    fronted (asked (Standard (record { 0 = raw })) (c .before .before .before .before .before .before .before .args .remote) (c .before .before .before .before .before .before .before .args .own) (c .before .before .before .before .before .before .before .args .code) []) _ _ (c .before .before .info .ensures) ids
+    ∙ ap (λ (i : Id). bufferOf (asked i (c .before .before .before .before .before .before .before .args .remote) (c .before .before .before .before .before .before .before .args .own) (c .before .before .before .before .before .before .before .args .code) [])) (sym (c .before .before .before .before .before .id .given .1))
 
 returns-2 : tie.Need-returns-2
 returns-2 c =
     let small = rw (c .before .before .before .before .before .before .before .id2 .given .1) at (c .before .before .before .before .before .before .before .before .before .pre .0) in
-    let ids = extended-bytes (c .before .before .before .before .before .before .before .id2 .given .0 .0 .0) (c .before .before .before .low-byte3 .result) (c .before .before .low-byte4 .result) (c .before .low-byte5 .result) (c .low-byte6 .result) small (c .before .before .before .low-byte3 .ensures) (c .before .before .low-byte4 .ensures) (c .before .low-byte5 .ensures) (c .low-byte6 .ensures) in
-    fronted true _ (c .before .before .before .before .before .before .before .before .before .args .remote) (c .before .before .before .before .before .before .before .before .before .args .own) (c .before .before .before .before .before .before .before .before .before .args .code) _ _ (c .before .before .before .before .info2 .ensures) ids
-    ∙ ap (λ (i : Id). frontOf (isExtended i) (rawOf i) (c .before .before .before .before .before .before .before .before .before .args .remote) (c .before .before .before .before .before .before .before .before .before .args .own) (c .before .before .before .before .before .before .before .before .before .args .code)) (sym (c .before .before .before .before .before .before .before .id2 .given .1))
+    let raw = c .before .before .before .before .before .before .before .id2 .given .0 .0 .0 in
+    let ids = extended-bytes raw (c .before .before .before .low-byte3 .result) (c .before .before .low-byte4 .result) (c .before .low-byte5 .result) (c .low-byte6 .result) small (c .before .before .before .low-byte3 .ensures) (c .before .before .low-byte4 .ensures) (c .before .low-byte5 .ensures) (c .low-byte6 .ensures) in
+    fronted (asked (Extended (record { 0 = raw })) (c .before .before .before .before .before .before .before .before .before .args .remote) (c .before .before .before .before .before .before .before .before .before .args .own) (c .before .before .before .before .before .before .before .before .before .args .code) []) _ _ (c .before .before .before .before .info2 .ensures) ids
+    ∙ ap (λ (i : Id). bufferOf (asked i (c .before .before .before .before .before .before .before .before .before .args .remote) (c .before .before .before .before .before .before .before .before .before .args .own) (c .before .before .before .before .before .before .before .before .before .args .code) [])) (sym (c .before .before .before .before .before .before .before .id2 .given .1))
 
 pub front-spec : {M : Type 1} → statement M
 front-spec =
