@@ -33,6 +33,13 @@ reads-back f made =
     same-frame (frameOf (bufferOf f)) f (built-extended f made) (built-remote f made) (built-own f made) (built-code f made)
     (built-id f made) (built-data f made)
 
+accepted-build : (f : Frame) → judged f ≡ gives 13 → buildOf f ≡ (gives 13, bufferOf f)
+unfolding buildOf
+accepted-build f made = rw made
+
+pub built-again : (f : Frame) → judged f ≡ gives 13 → buildOf (frameOf (bufferOf f)) ≡ (gives 13, bufferOf f)
+built-again f made = ap buildOf (reads-back f made) ∙ accepted-build f made
+
 pub built-clean : (f : Frame) → judged f ≡ gives 13 → Clean (bufferOf f)
 built-clean f made =
     record {

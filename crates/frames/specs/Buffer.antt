@@ -26,7 +26,7 @@ idBytes true = 4
 abbrev pub dataStart : Bool → ℕ
 dataStart format = 1 + idBytes format
 
--- what a frame says
+-- what a frame says: its format, a remote request, a self-reception, the length code, the identifier's number and the data
 pub record Frame : Type 0 where
   pub extended : Bool
   pub remote : Bool

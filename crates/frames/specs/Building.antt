@@ -16,7 +16,7 @@ use Rattle.frames.specs.declared.Built.{Built}
 
 -- data longer than 8, or a remote frame with data
 abbrev pub invalidLength : Bool → ℕ → Bool
-invalidLength remote length = ltb 8 length || remote && ltb 0 length
+invalidLength remote length = ltb 8 length || (remote && ltb 0 length)
 
 -- a code above 15, or a length below 8 and an unequal code, or length 8 and a code below 8
 abbrev pub nonCompliant : ℕ → ℕ → Bool
