@@ -1,20 +1,23 @@
 -- Frames by plain numbers: an identifier is its format and its number, a frame a slice that must be 13 bytes long.
 -- Source: the outline, "What changes shape"; docs/ABI.md.
-use Prim.Native.Nat.{ℕ, min}
-use mathlib.Core.Bool.{Bool, true, false}
+use Prim.Native.Nat.{ℕ}
+use mathlib.Core.Bool.{Bool, true, false, cond}
 use mathlib.Core.List.{List}
+use lib.Dec.{leb}
 use lib.ListN.{length}
 use Rattle.laws.specs.Said.{Said, refuses, gives}
-use Rattle.identifiers.specs.declared.Id.{Id}
+use Rattle.refusals.specs.declared.Refusal.the-variants.{IdentifierAboveLimit}
 use Rattle.identifiers.specs.declared.Id.the-variants.{Standard, Extended}
 use Rattle.frames.specs.Buffer.{Frame, bufferOf}
 use Rattle.frames.specs.Building.{judged}
+use Rattle.frames.specs.declared.Identified.{Identified}
+use Rattle.frames.specs.declared.Identified.the-variants.{Read, Refused}
 use Rattle.exports.specs.Answers.{whole, laying, written}
 
--- the identifier that building is handed: what no u16 holds becomes the largest that one does, which is above the limit too
-abbrev pub idFrom : Bool → ℕ → Id
-idFrom true raw = Extended (record { 0 = raw })
-idFrom false raw = Standard (record { 0 = min raw 0xFFFF })
+-- the identifier of a format and a number: a standard number that no u16 holds is none
+abbrev pub idFrom : Bool → ℕ → Identified
+idFrom true raw = Read (Extended (record { 0 = raw }))
+idFrom false raw = cond (leb raw 0xFFFF) (Read (Standard (record { 0 = raw }))) (Refused IdentifierAboveLimit)
 
 abbrev pub plain : Bool → ℕ → Bool → Bool → ℕ → List ℕ → Frame
 plain extended id remote own code payload =

@@ -132,17 +132,17 @@ fn wrong_length(argument: usize) -> Answer
     refused(Refusal::WrongLength(argument))
 }
 
-// A standard number that no u16 holds is as far above the limit as any.
-fn id_of(extended: bool, raw: u32) -> Id
+// The identifier of a format and a number; refusal 1 for a standard number that no u16 holds.
+fn id_of(extended: bool, raw: u32) -> Identified
     ensures { λ r. ⌜ r ≡ idFrom extended raw ⌝ }
 {
     if extended {
-        return Id::Extended(ExtendedId(raw));
+        return Identified::Read(Id::Extended(ExtendedId(raw)));
     }
-    if raw > 0xFFFF {
-        return Id::Standard(StandardId(0xFFFF));
+    if raw <= 0xFFFF {
+        return Identified::Read(Id::Standard(StandardId(raw as u16)));
     }
-    Id::Standard(StandardId(raw as u16))
+    Identified::Refused(Refusal::IdentifierAboveLimit)
 }
 
 // The answer of building, and the buffer in a lent frame of 13 bytes.
@@ -178,10 +178,13 @@ pub extern "C" fn chherbolat_new_from_parameters(
     if frame.len() != 13 {
         return wrong_length(6);
     }
-    deliver(
-        frames::new_from_parameters(id_of(extended, id), remote, own, dlc, data),
-        frame,
-    )
+    match id_of(extended, id) {
+        Identified::Read(id) => deliver(
+            frames::new_from_parameters(id, remote, own, dlc, data),
+            frame,
+        ),
+        Identified::Refused(refusal) => refused(refusal),
+    }
 }
 
 #[no_mangle]
@@ -192,7 +195,10 @@ pub extern "C" fn chherbolat_new(extended: bool, id: u32, data: &[u8], frame: &m
     if frame.len() != 13 {
         return wrong_length(3);
     }
-    deliver(frames::new(id_of(extended, id), data), frame)
+    match id_of(extended, id) {
+        Identified::Read(id) => deliver(frames::new(id, data), frame),
+        Identified::Refused(refusal) => refused(refusal),
+    }
 }
 
 #[no_mangle]
@@ -208,7 +214,10 @@ pub extern "C" fn chherbolat_new_self_reception(
     if frame.len() != 13 {
         return wrong_length(3);
     }
-    deliver(frames::new_self_reception(id_of(extended, id), data), frame)
+    match id_of(extended, id) {
+        Identified::Read(id) => deliver(frames::new_self_reception(id, data), frame),
+        Identified::Refused(refusal) => refused(refusal),
+    }
 }
 
 #[no_mangle]

@@ -41,7 +41,7 @@ pasted : (front payload : List ℕ) (n room : ℕ) → length front ≡ n
 pasted front payload n room h =
     rw (← h, take-append-seam, take-length, drop-append-add, drop-zeros) (append-assoc front payload (replicate (room - length payload) 0))
 
-ids-length : (format : Bool) (id : ℕ) → length (idBytesOf format id) ≡ idBytes format
+pub ids-length : (format : Bool) (id : ℕ) → length (idBytesOf format id) ≡ idBytes format
 ids-length format id = unpack-length (bytes (idBytes format)) (pack (idRow format) (id ∷ 0 ∷ [])) ∙ length-replicate (idBytes format) 8
 
 -- a frame without data

@@ -4,18 +4,19 @@ use mathlib.Core.Path.{_≡_, refl, ap, sym, _∙_}
 use mathlib.Core.Bool.{Bool, true, false, cond}
 use mathlib.Core.List.{List, [], _∷_, _++_}
 use lib.Dec.{eqb, ltb}
-use lib.ListN.{length, getD, drop, replicate, length-append, length-replicate}
+use lib.ListN.{length, getD, drop, replicate, length-append}
 use lib.Seq.{take-at, drop-at, take-append-seam, drop-append-seam, drop-drop}
 use native.Mathlib.Omega.{arith}
 use borrow.Author.Tests.{ltb-true, ltb-false}
-use Rattle.laws.specs.Row.{width, pack, regroup, bytes, bit, Fit, none, field}
+use Rattle.laws.specs.Row.{width, regroup, bytes, bit, Fit, none, field}
 use Rattle.laws.specs.Tabulate.{part}
-use Rattle.laws.proofs.Row.{unpack-pack, unpack-length, regroup-back}
+use Rattle.laws.proofs.Row.{unpack-pack, regroup-back}
 use Rattle.laws.proofs.Tabulate.{part-is}
 use Rattle.laws.specs.Said.{gives}
 use Rattle.identifiers.specs.Limits.{limitOf}
 use Rattle.frames.specs.Buffer.{Frame, idRow, idBytes, dataStart, idBytesOf, bufferOf, infoOf, extendedOf, remoteOf, ownOf, codeOf, idFields, idIn, idOf, dataLengthOf, dataOf}
 use Rattle.frames.specs.Building.{judged}
+use Rattle.frames.proofs.Buffer.{ids-length}
 use Rattle.frames.proofs.Judged.{Good, judged-good}
 
 -- both formats' rows are as wide as their bytes
@@ -82,15 +83,15 @@ module _ (f : Frame) (made : judged f ≡ gives 13) where
   rest : List ℕ
   rest = f .payload ++ replicate (13 - (dataStart (f .extended) + length (f .payload))) 0
 
-  ids-length : length ids ≡ idBytes (f .extended)
+  long : length ids ≡ idBytes (f .extended)
   unfolding ids
-  ids-length = unpack-length (bytes (idBytes (f .extended))) (pack (idRow (f .extended)) (f .id ∷ 0 ∷ [])) ∙ length-replicate (idBytes (f .extended)) 8
+  long = ids-length (f .extended) (f .id)
 
   ids-part : part (bufferOf f) 1 (idBytes (f .extended)) ≡ ids
   unfolding bufferOf ids rest
   ids-part =
-      sym (part-is (idBytes (f .extended)) 1 (bufferOf f) (simp length-append (omega (arith, ids-length))))
-      ∙ take-at ids rest (idBytes (f .extended)) ids-length
+      sym (part-is (idBytes (f .extended)) 1 (bufferOf f) (simp length-append (omega (arith, long))))
+      ∙ take-at ids rest (idBytes (f .extended)) long
 
   pub built-fields : idFields (f .extended) (bufferOf f) ≡ f .id ∷ 0 ∷ []
   unfolding ids
@@ -107,7 +108,7 @@ module _ (f : Frame) (made : judged f ≡ gives 13) where
 
   behind : drop (dataStart (f .extended)) (bufferOf f) ≡ rest
   unfolding bufferOf ids rest
-  behind = sym (drop-drop (idBytes (f .extended)) 1 (bufferOf f)) ∙ drop-at ids rest (idBytes (f .extended)) ids-length
+  behind = sym (drop-drop (idBytes (f .extended)) 1 (bufferOf f)) ∙ drop-at ids rest (idBytes (f .extended)) long
 
   pub built-data : dataOf (bufferOf f) ≡ f .payload
   unfolding dataOf rest

@@ -1,11 +1,13 @@
 -- `exports::chherbolat_new` meets its contract: building by plain numbers is building by identifiers (proofs/Delivered.antt). Assumes nothing.
-use mathlib.Core.Path.{_∙_}
+use mathlib.Core.Path.{sym, ap, _∙_}
 use mathlib.Core.Bool.{false}
 use lib.ListN.{length}
 use borrow.Author.Needs.{needs}
+use Rattle.frames.specs.Building.{buildOf}
 use Rattle.exports.specs.Answers.{written}
+use Rattle.exports.specs.Frames.{plain}
 use Rattle.exports.proofs.Whole.{whole-no}
-use Rattle.exports.proofs.Delivered.{alike, delivered}
+use Rattle.exports.proofs.Delivered.{delivered, asked-plain, none-delivered}
 use Rattle.exports.proofs.chherbolat_new.Statement.{statement}
 use Rattle.exports.proofs.chherbolat_new.Tie as tie
 
@@ -19,22 +21,40 @@ returns c = (rw (whole-no _ _ _ (c .before .if1 .taken)) (c .wrong-length .ensur
 id-of-requires : tie.Need-id-of-requires
 id-of-requires c κs = search needs
 
+enum-known-id : tie.Need-enum-known-id
+enum-known-id c = search needs
+
 new-requires : tie.Need-new-requires
 new-requires c κs = search needs
 
 deliver-requires : tie.Need-deliver-requires
 deliver-requires c κs = search needs
 
+enum-known-refusal : tie.Need-enum-known-refusal
+enum-known-refusal c = search needs
+
+refused-requires : tie.Need-refused-requires
+refused-requires c κs = search needs
+
 same-length : tie.Need-same-length
 same-length c = search needs
 
 returns-2 : tie.Need-returns-2
 returns-2 c =
-    let args = c .before .before .before .before .before .before .before .before .before .args in
+    let args = c .before .before .before .before .before .before .before .before .before .before .before .before .args in
     let payload = args .«data» .now in
-    let built = rw (c .before .before .before .before .before .id-of .ensures) at (c .before .before .before .before .new .ensures) in
-    let both = delivered (c .before .before .before .before .new .result) 3 (args .frame .now) _ _ (c .before .before .before .before .before .before .if1 .left) built (alike (args .extended) (args .id) false false (length payload) payload) in
+    let made = sym (c .before .before .before .before .before .before .before .before .id-of .ensures) ∙ c .before .before .before .before .before .before .id .given .1 in
+    let built = c .before .before .before .before .new .ensures ∙ ap buildOf (asked-plain (args .extended) (args .id) _ made false false (length payload) payload) in
+    let both = delivered (c .before .before .before .before .new .result) 3 (args .frame .now) (plain (args .extended) (args .id) false false (length payload) payload) (c .before .before .before .before .before .before .before .before .before .if1 .left) built in
     (c .before .before .deliver .ensures .0 ∙ both .0, c .before .before .deliver .ensures .1 ∙ both .1)
+
+returns-3 : tie.Need-returns-3
+returns-3 c =
+    let args = c .before .before .before .before .before .before .before .before .args in
+    let payload = args .«data» .now in
+    let none = sym (c .before .before .before .before .id-of .ensures) ∙ c .before .before .refusal .given .1 in
+    let both = none-delivered 3 (args .frame .now) (plain (args .extended) (args .id) false false (length payload) payload) _ (c .before .before .before .before .before .if1 .left) none in
+    (c .refused .ensures ∙ both .0, both .1)
 
 pub chherbolat-new-spec : {M : Type 1} → statement M
 chherbolat-new-spec =
@@ -43,7 +63,11 @@ chherbolat-new-spec =
     wrong-length-requires
     returns
     id-of-requires
+    enum-known-id
     new-requires
     deliver-requires
+    enum-known-refusal
+    refused-requires
     same-length
-    returns-2)
+    returns-2
+    returns-3)
