@@ -39,6 +39,40 @@ chherbolat_answer chherbolat_identifier(const uint8_t *frame, size_t frame_lengt
 chherbolat_answer chherbolat_data(const uint8_t *frame, size_t frame_length, uint8_t *out, size_t out_length);
 chherbolat_answer chherbolat_as_slice(const uint8_t *frame, size_t frame_length, uint8_t *out, size_t out_length);
 
+chherbolat_answer chherbolat_single_standard_filter_new(const uint8_t *id, size_t id_length, const uint8_t *rtr,
+                                                        size_t rtr_length, const uint8_t *first, size_t first_length,
+                                                        const uint8_t *second, size_t second_length, uint8_t *registers,
+                                                        size_t registers_length);
+chherbolat_answer chherbolat_single_standard_filter_new_from_code_mask(uint16_t id_code, uint16_t id_mask,
+                                                                       bool rtr_code, bool rtr_mask, uint8_t first_code,
+                                                                       uint8_t second_code, uint8_t first_mask,
+                                                                       uint8_t second_mask, uint8_t *registers,
+                                                                       size_t registers_length);
+chherbolat_answer chherbolat_single_extended_filter_new(const uint8_t *id, size_t id_length, const uint8_t *rtr,
+                                                        size_t rtr_length, uint8_t *registers, size_t registers_length);
+chherbolat_answer chherbolat_single_extended_filter_new_from_code_mask(uint32_t id_code, uint32_t id_mask,
+                                                                       bool rtr_code, bool rtr_mask, uint8_t *registers,
+                                                                       size_t registers_length);
+chherbolat_answer chherbolat_dual_standard_filter_new(const uint8_t *first_id, size_t first_id_length,
+                                                      const uint8_t *first_rtr, size_t first_rtr_length,
+                                                      const uint8_t *first_payload, size_t first_payload_length,
+                                                      const uint8_t *second_id, size_t second_id_length,
+                                                      const uint8_t *second_rtr, size_t second_rtr_length,
+                                                      uint8_t *registers, size_t registers_length);
+chherbolat_answer chherbolat_dual_standard_filter_new_from_code_mask(uint16_t first_id_code, uint16_t first_id_mask,
+                                                                     bool first_rtr_code, bool first_rtr_mask,
+                                                                     uint8_t first_payload_code,
+                                                                     uint8_t first_payload_mask,
+                                                                     uint16_t second_id_code, uint16_t second_id_mask,
+                                                                     bool second_rtr_code, bool second_rtr_mask,
+                                                                     uint8_t *registers, size_t registers_length);
+chherbolat_answer chherbolat_dual_extended_filter_new(const uint8_t *first, size_t first_length, const uint8_t *second,
+                                                      size_t second_length, uint8_t *registers,
+                                                      size_t registers_length);
+chherbolat_answer chherbolat_dual_extended_filter_new_from_code_mask(uint16_t first_code, uint16_t second_code,
+                                                                     uint16_t first_mask, uint16_t second_mask,
+                                                                     uint8_t *registers, size_t registers_length);
+
 #ifdef __cplusplus
 }
 #endif

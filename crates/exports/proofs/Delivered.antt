@@ -8,7 +8,7 @@ use lib.Dec.{leb}
 use lib.ListN.{length, replicate}
 use native.Mathlib.Omega.{arith}
 use borrow.Author.Tests.{lt-leb, leb-false}
-use Rattle.laws.specs.Said.{Said, refuses, gives, accepted}
+use Rattle.laws.specs.Said.{refuses}
 use Rattle.refusals.specs.declared.Refusal.{Refusal}
 use Rattle.refusals.specs.Table.{refusalSaid}
 use Rattle.identifiers.specs.declared.Id.{Id}
@@ -16,12 +16,9 @@ use Rattle.identifiers.specs.Limits.{limitOf, isExtended, rawOf}
 use Rattle.frames.specs.declared.Identified.the-variants.{Read, Refused}
 use Rattle.refusals.specs.declared.Refusal.the-variants.{IdentifierAboveLimit}
 use Rattle.identifiers.specs.declared.Id.the-variants.{Standard, Extended}
-use Rattle.frames.specs.Buffer.{Frame, bufferOf}
-use Rattle.frames.specs.Building.{judgeOf, judged, buildOf, builtSaid, asked}
-use Rattle.frames.specs.declared.Built.{Built}
-use Rattle.exports.specs.Answers.{answerOf, written}
-use Rattle.exports.specs.Frames.{idFrom, plain, building, buildingLeaves}
-use Rattle.exports.proofs.Whole.{whole-yes}
+use Rattle.frames.specs.Buffer.{Frame}
+use Rattle.frames.specs.Building.{judgeOf, buildOf, asked}
+use Rattle.exports.specs.Frames.{idFrom, plain}
 
 above : (format : Bool) (id : ℕ) (remote : Bool) (code length : ℕ) → limitOf format < id → judgeOf format id remote code length ≡ refuses 1 0
 unfolding judgeOf
@@ -54,32 +51,12 @@ no-id false id r e remote code length = by (leb id 0xFFFF) refl e
         let same : IdentifierAboveLimit ≡ r = cc in
         above false id remote code length (omega (arith, leb-false id 0xFFFF large)) ∙ ap refusalSaid same
 
-written-either : (said : Said ℕ) (bytes zeros frame : List ℕ) → written said (cond (accepted said) bytes zeros) frame ≡ written said bytes frame
-unfolding written
-written-either (refuses number carried) bytes zeros frame = refl
-written-either (gives n) bytes zeros frame = refl
-
-pub delivered : (built : Built) (argument : ℕ) (frame : List ℕ) (f : Frame) → length frame ≡ 13 → builtSaid built ≡ buildOf f
-    → (answerOf (builtSaid built .0) ≡ answerOf (building argument frame f))
-    × (written (builtSaid built .0) (built .frame) frame ≡ buildingLeaves argument frame f)
-unfolding buildOf written
-delivered built argument frame f h said =
-    let due : building argument frame f ≡ judged f = whole-yes argument frame (judged f) h in (
-      ap (λ (p : Said ℕ × List ℕ). answerOf (p .0)) said ∙ sym (ap answerOf due),
-      ap (λ (p : Said ℕ × List ℕ). written (p .0) (p .1) frame) said
-          ∙ (written-either (judged f) (bufferOf f) (replicate 13 0) frame ∙ sym (ap (λ (s : Said ℕ). written s (bufferOf f) frame) due)),
-    )
-
 -- the frame that is asked for by an identifier that was made
 pub asked-plain : (extended : Bool) (id : ℕ) (i : Id) → idFrom extended id ≡ Read i → (remote own : Bool) (code : ℕ) (payload : List ℕ)
     → asked i remote own code payload ≡ plain extended id remote own code payload
 asked-plain extended id i e remote own code payload = rw (made-id extended id i e .0, made-id extended id i e .1)
 
--- and what is answered where none was
-pub none-delivered : (argument : ℕ) (frame : List ℕ) (f : Frame) (r : Refusal) → length frame ≡ 13 → idFrom (f .extended) (f .id) ≡ Refused r
-    → (answerOf (refusalSaid r) ≡ answerOf (building argument frame f)) × (frame ≡ buildingLeaves argument frame f)
-unfolding written
-none-delivered argument frame f r h e =
-    let due : building argument frame f ≡ refusalSaid r =
-    whole-yes argument frame (judged f) h ∙ no-id (f .extended) (f .id) r e (f .remote) (f .code) (length (f .payload)) in
-    (ap answerOf (sym due), sym (ap (λ (s : Said ℕ). written s (bufferOf f) frame) due))
+-- and what building owes where none was
+pub none-built : (f : Frame) (r : Refusal) → idFrom (f .extended) (f .id) ≡ Refused r → buildOf f ≡ (refusalSaid r, replicate 13 0)
+unfolding buildOf
+none-built f r e = rw (no-id (f .extended) (f .id) r e (f .remote) (f .code) (length (f .payload)))

@@ -1,16 +1,25 @@
--- What an exported function answers for a frame slice of 13 bytes, and for any other. Assumes nothing.
+-- What an exported function answers and leaves for a lent slice of the right length, and for any other. Assumes nothing.
 use Prim.Native.Nat.{ℕ}
-use mathlib.Core.Path.{_≡_}
+use mathlib.Core.Path.{_≡_, ap, sym, _∙_}
 use mathlib.Core.List.{List}
 use lib.ListN.{length}
 use borrow.Author.Tests.{eq-eqb, ne-eqb}
 use Rattle.laws.specs.Said.{Said, refuses}
-use Rattle.exports.specs.Answers.{whole}
+use Rattle.exports.specs.Answers.{answerOf, sized, written, delivering, deliveryLeaves}
 
-pub whole-yes : (argument : ℕ) (frame : List ℕ) (said : Said ℕ) → length frame ≡ 13 → whole argument frame said ≡ said
-unfolding whole
-whole-yes argument frame said h = rw (eq-eqb (length frame) 13 h)
+pub sized-yes : (n argument : ℕ) (slice : List ℕ) (said : Said ℕ) → length slice ≡ n → sized n argument slice said ≡ said
+unfolding sized
+sized-yes n argument slice said h = rw (eq-eqb (length slice) n h)
 
-pub whole-no : (argument : ℕ) (frame : List ℕ) (said : Said ℕ) → (length frame ≡ 13 → ⊥) → whole argument frame said ≡ refuses 14 argument
-unfolding whole
-whole-no argument frame said h = rw (ne-eqb (length frame) 13 h)
+pub sized-no : (n argument : ℕ) (slice : List ℕ) (said : Said ℕ) → (length slice ≡ n → ⊥) → sized n argument slice said ≡ refuses 14 argument
+unfolding sized
+sized-no n argument slice said h = rw (ne-eqb (length slice) n h)
+
+-- what is delivered is the answer and its bytes
+pub delivered : (n argument : ℕ) (slice : List ℕ) (said a : Said ℕ × List ℕ) → length slice ≡ n → said ≡ a
+    → (answerOf (said .0) ≡ answerOf (delivering n argument slice a)) × (written (said .0) (said .1) slice ≡ deliveryLeaves n argument slice a)
+delivered n argument slice said a h same =
+    let due : delivering n argument slice a ≡ a .0 = sized-yes n argument slice (a .0) h in (
+      ap (λ (p : Said ℕ × List ℕ). answerOf (p .0)) same ∙ sym (ap answerOf due),
+      ap (λ (p : Said ℕ × List ℕ). written (p .0) (p .1) slice) same ∙ sym (ap (λ (s : Said ℕ). written s (a .1) slice) due),
+    )

@@ -13,9 +13,12 @@ abbrev pub answerOf : Said ℕ → Answer
 answerOf (gives n) = record { number = 0; value = n }
 answerOf (refuses number carried) = record { number = number; value = carried }
 
--- a slice that is no whole frame is refusal 14 with its argument, before all else
-unfoldable pub whole : ℕ → List ℕ → Said ℕ → Said ℕ
-whole argument frame said = cond (eqb (length frame) 13) said (refuses 14 argument)
+-- a slice of another length than its own is refusal 14 with its argument, before all else
+unfoldable pub sized : ℕ → ℕ → List ℕ → Said ℕ → Said ℕ
+sized n argument slice said = cond (eqb (length slice) n) said (refuses 14 argument)
+
+abbrev pub whole : ℕ → List ℕ → Said ℕ → Said ℕ
+whole = sized 13
 
 -- bytes to be laid into an output: their number, or refusal 6 that carries it
 unfoldable pub laying : List ℕ → List ℕ → Said ℕ
@@ -24,3 +27,10 @@ laying bytes out = cond (leb (length bytes) (length out)) (gives (length bytes))
 -- an output after an answer: the bytes and then what stood behind them, or all as it was
 unfoldable pub written : Said ℕ → List ℕ → List ℕ → List ℕ
 written said bytes out = cond (accepted said) (bytes ++ drop (length bytes) out) out
+
+-- an answer with bytes beside it, delivered into a lent slice of n bytes
+abbrev pub delivering : ℕ → ℕ → List ℕ → Said ℕ × List ℕ → Said ℕ
+delivering n argument slice a = sized n argument slice (a .0)
+
+abbrev pub deliveryLeaves : ℕ → ℕ → List ℕ → Said ℕ × List ℕ → List ℕ
+deliveryLeaves n argument slice a = written (delivering n argument slice a) (a .1) slice

@@ -8,11 +8,11 @@ use lib.ListN.{length}
 use Rattle.laws.specs.Said.{Said, refuses, gives}
 use Rattle.refusals.specs.declared.Refusal.the-variants.{IdentifierAboveLimit}
 use Rattle.identifiers.specs.declared.Id.the-variants.{Standard, Extended}
-use Rattle.frames.specs.Buffer.{Frame, bufferOf}
-use Rattle.frames.specs.Building.{judged}
+use Rattle.frames.specs.Buffer.{Frame}
+use Rattle.frames.specs.Building.{buildOf}
 use Rattle.frames.specs.declared.Identified.{Identified}
 use Rattle.frames.specs.declared.Identified.the-variants.{Read, Refused}
-use Rattle.exports.specs.Answers.{whole, laying, written}
+use Rattle.exports.specs.Answers.{whole, laying, written, delivering, deliveryLeaves}
 
 -- the identifier of a format and a number: a standard number that no u16 holds is none
 abbrev pub idFrom : Bool → ℕ → Identified
@@ -28,10 +28,10 @@ plainData extended id own payload = plain extended id false own (length payload)
 
 -- building into a lent frame, whose place among the arguments is given
 abbrev pub building : ℕ → List ℕ → Frame → Said ℕ
-building argument frame f = whole argument frame (judged f)
+building argument frame f = delivering 13 argument frame (buildOf f)
 
 abbrev pub buildingLeaves : ℕ → List ℕ → Frame → List ℕ
-buildingLeaves argument frame f = written (building argument frame f) (bufferOf f) frame
+buildingLeaves argument frame f = deliveryLeaves 13 argument frame (buildOf f)
 
 -- an identifier without its format
 abbrev pub numberSaid : Said (Bool × ℕ) → Said ℕ

@@ -1,4 +1,14 @@
 // The library for other languages: plain numbers and byte slices in, an answer of two numbers out (docs/ABI.md).
+mod compilers;
+
+pub use compilers::chherbolat_dual_extended_filter_new;
+pub use compilers::chherbolat_dual_extended_filter_new_from_code_mask;
+pub use compilers::chherbolat_dual_standard_filter_new;
+pub use compilers::chherbolat_dual_standard_filter_new_from_code_mask;
+pub use compilers::chherbolat_single_extended_filter_new;
+pub use compilers::chherbolat_single_extended_filter_new_from_code_mask;
+pub use compilers::chherbolat_single_standard_filter_new;
+pub use compilers::chherbolat_single_standard_filter_new_from_code_mask;
 ghost use mathlib.Core.Path.{_≡_};
 ghost use mathlib.Core.Bool.{true, false};
 ghost use mathlib.Core.List.{_++_};

@@ -1,6 +1,7 @@
 -- Tests joined by "or" and "and", taken apart and put together. Assumes nothing.
 use mathlib.Core.Path.{_≡_, refl}
 use mathlib.Core.Bool.{Bool, true, false, _||_, _&&_, true≢false, false≢true}
+use lib.Dec.{T}
 
 pub neither : (a b : Bool) → (a || b) ≡ false → (a ≡ false) × (b ≡ false)
 neither false b e = (refl, e)
@@ -17,3 +18,22 @@ not-both true b e h = e
 pub and-no : (a b : Bool) → (a ≡ true → b ≡ false) → (a && b) ≡ false
 and-no false b h = refl
 and-no true b h = h refl
+
+-- two tests that both pass
+pub both-left : (a b : Bool) → T (a && b) → T a
+both-left true b t = tt
+both-left false b t = t
+
+pub both-right : (a b : Bool) → T (a && b) → T b
+both-right true b t = t
+both-right false b t = absurd t
+
+pub and-first-no : (a b : Bool) → a ≡ false → (a && b) ≡ false
+and-first-no a b e = rw e
+
+pub and-yes : (a b : Bool) → a ≡ true → b ≡ true → (a && b) ≡ true
+and-yes a b e h = rw (e, h)
+
+pub and-last-no : (a b : Bool) → b ≡ false → (a && b) ≡ false
+and-last-no true b e = e
+and-last-no false b e = refl

@@ -3,3 +3,4 @@ pub mod Only
 pub mod Tabulate
 pub mod Bools
 pub mod Copy
+pub mod Bits

@@ -2,11 +2,13 @@
 -- Source: the outline, "Numbers to check".
 use Prim.Native.Nat.{ℕ}
 use mathlib.Core.Bool.{Bool, true, false}
-use mathlib.Core.List.{List, [], _∷_}
+use mathlib.Core.List.{List, [], _∷_, _++_}
 use lib.ListN.{replicate}
 use Rattle.laws.specs.Said.{Said, refuses, gives}
 use Rattle.laws.specs.Tabulate.{part}
 use Rattle.identifiers.specs.Answers.{baseOf}
+use Rattle.filters.specs.Table.{singleStandard, dualStandard, dualExtended}
+use Rattle.filters.specs.Answers.{compileOf, codeMaskOf, bothWithin}
 use Rattle.frames.specs.Buffer.{Frame, bufferOf, dataOf}
 use Rattle.frames.specs.Building.{buildOf, judged}
 
@@ -34,6 +36,16 @@ zeros n = replicate n 0
 abbrev eight : List ℕ
 eight = 1 ∷ 2 ∷ 3 ∷ 4 ∷ 5 ∷ 6 ∷ 7 ∷ 8 ∷ []
 
+-- the pattern characters `0`, `1` and, n times, `x`
+abbrev zero : ℕ
+zero = 48
+
+abbrev one : ℕ
+one = 49
+
+abbrev spare : ℕ → List ℕ
+spare n = replicate n 120
+
 abbrev pub rows : List Row
 rows =
     -- P1
@@ -51,4 +63,18 @@ rows =
     ∷ row (buildOf (standard 1 99 (replicate 264 1))) (refuses 2 8, zeros 13)
     -- P6
     ∷ row (buildOf (frame false 1 true 1 [])) (refuses 3 1, zeros 13)
+    -- P7
+    ∷ row (compileOf singleStandard ((spare 10 ++ zero ∷ []) ∷ spare 1 ∷ spare 8 ∷ spare 8 ∷ []))
+    (gives 8, 0 ∷ 0 ∷ 0 ∷ 0 ∷ 0xFF ∷ 0xDF ∷ 0xFF ∷ 0xFF ∷ [])
+    -- P8
+    ∷ row (compileOf dualExtended ((spare 9 ++ (replicate 4 zero ++ spare 3)) ∷ (spare 9 ++ (replicate 4 one ++ spare 3)) ∷ []))
+    (gives 8, 0 ∷ 0 ∷ 0 ∷ 0x78 ∷ 0xFF ∷ 0x87 ∷ 0xFF ∷ 0x87 ∷ [])
+    -- P9
+    ∷ row (compileOf dualStandard (spare 11 ∷ spare 1 ∷ (one ∷ zero ∷ one ∷ zero ∷ zero ∷ one ∷ zero ∷ one ∷ []) ∷ spare 11 ∷ spare 1 ∷ []))
+    (gives 8, 0 ∷ 0x0A ∷ 0 ∷ 0x05 ∷ 0xFF ∷ 0xF0 ∷ 0xFF ∷ 0xF0 ∷ [])
+    -- P10
+    ∷ row (codeMaskOf singleStandard (bothWithin false 0x7FF 1) (0x7FF ∷ 0 ∷ 0 ∷ 0 ∷ []) (1 ∷ 0 ∷ 0 ∷ 0 ∷ []))
+    (gives 8, 0xFF ∷ 0xE0 ∷ 0 ∷ 0 ∷ 0xFF ∷ 0xDF ∷ 0xFF ∷ 0xFF ∷ [])
+    ∷ row (compileOf singleStandard ((spare 10 ++ one ∷ []) ∷ spare 1 ∷ spare 8 ∷ spare 8 ∷ []))
+    (gives 8, 0 ∷ 0x20 ∷ 0 ∷ 0 ∷ 0xFF ∷ 0xDF ∷ 0xFF ∷ 0xFF ∷ [])
     ∷ []

@@ -1,4 +1,5 @@
 // Each stored answer of the Rust beside ours. A letter says which function, or functions, a line is about.
+use crate::compilers;
 use crate::text;
 use exports::Answer;
 
@@ -15,7 +16,7 @@ fn given(answer: Answer, value: u64) -> bool {
 }
 
 // A stored answer: its number in one byte and its value in eight.
-fn says(answer: Answer, stored: &[u8]) -> bool {
+pub(crate) fn says(answer: Answer, stored: &[u8]) -> bool {
     if answer.number == text::byte(stored, 0) as u32 {
         return answer.value == text::number(stored, 1, 8);
     }
@@ -154,6 +155,8 @@ fn agrees(function: u8, bytes: &[u8]) -> bool {
         b'n' => new(false, bytes),
         b'm' => new(true, bytes),
         b'r' => read_numbers(bytes) && read_parts(bytes),
+        b'p' => compilers::by_patterns(bytes),
+        b'c' => compilers::by_code_and_mask(bytes),
         _ => false,
     }
 }

@@ -1,6 +1,8 @@
 //! The library's side of the face: what libexports.a declares (docs/ABI.md).
 use oracle::{answer::Answer, face::Face};
 
+mod filters;
+
 pub const LIBRARY: Face = Face {
     standard_id_new: chherbolat_standard_id_new,
     extended_id_new: chherbolat_extended_id_new,
@@ -17,6 +19,7 @@ pub const LIBRARY: Face = Face {
     identifier: chherbolat_identifier,
     data: chherbolat_data,
     as_slice: chherbolat_as_slice,
+    filters: filters::FILTERS,
 };
 
 #[link(name = "exports", kind = "static")]

@@ -1,4 +1,5 @@
 //! One question for both sides.
+use crate::compiler::Compiler;
 
 #[derive(Debug, Clone, PartialEq, Eq)]
 pub enum Case {
@@ -8,6 +9,8 @@ pub enum Case {
     BaseId(u32),
     Build(Build),
     Read(Read),
+    Patterns(Patterns),
+    CodeMask(CodeMask),
 }
 
 #[derive(Debug, Clone, PartialEq, Eq)]
@@ -32,5 +35,23 @@ pub enum Constructor {
 pub struct Read {
     pub frame: Vec<u8>,
     /// The length of the slice that is lent for the bytes read.
+    pub room: usize,
+}
+
+/// A filter by patterns.
+#[derive(Debug, Clone, PartialEq, Eq)]
+pub struct Patterns {
+    pub compiler: Compiler,
+    pub patterns: Vec<Vec<u8>>,
+    /// The length of the slice that is lent for the registers.
+    pub room: usize,
+}
+
+/// A filter by code and mask.
+#[derive(Debug, Clone, PartialEq, Eq)]
+pub struct CodeMask {
+    pub compiler: Compiler,
+    pub arguments: Vec<u32>,
+    /// The length of the slice that is lent for the registers.
     pub room: usize,
 }

@@ -5,6 +5,8 @@ use crate::{
     random::Random,
 };
 
+mod filters;
+
 /// Longer than any reader needs, to see that the rest stays.
 pub const OUT_LENGTH: usize = 16;
 
@@ -60,6 +62,7 @@ pub fn all(count: u64, visit: &mut impl FnMut(Case)) {
     reads(count, visit);
     frames_of_wrong_length(visit);
     outputs_of_every_length(visit);
+    filters::all(count, visit);
 }
 
 /// Visits a few thousand cases that reach every branch.
@@ -75,6 +78,7 @@ pub fn sample(visit: &mut impl FnMut(Case)) {
             visit(read(first, random));
         }
     }
+    filters::sample(visit);
 }
 
 fn sample_identifiers(random: &mut Random, visit: &mut impl FnMut(Case)) {

@@ -11,6 +11,8 @@ use crate::{
     face::{FRAME_LENGTH, Face},
 };
 
+pub mod filters;
+
 pub const DRIVER: Face = Face {
     standard_id_new,
     extended_id_new,
@@ -27,6 +29,7 @@ pub const DRIVER: Face = Face {
     identifier,
     data,
     as_slice,
+    filters: filters::FILTERS,
 };
 
 extern "C" fn standard_id_new(raw: u16) -> Answer {

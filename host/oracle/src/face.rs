@@ -1,6 +1,8 @@
 //! The functions of docs/ABI.md, by their names there without the prefix, as a table that each side fills.
 use crate::answer::Answer;
 
+pub mod filters;
+
 pub const FRAME_LENGTH: usize = 13;
 
 type Constructor = unsafe extern "C" fn(
@@ -40,4 +42,5 @@ pub struct Face {
     pub identifier: Reader,
     pub data: Copier,
     pub as_slice: Copier,
+    pub filters: filters::Filters,
 }

@@ -2,6 +2,7 @@
 pub mod answer;
 pub mod case;
 pub mod cases;
+pub mod compiler;
 pub mod driver;
 pub mod face;
 pub mod outcome;

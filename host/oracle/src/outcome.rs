@@ -5,6 +5,8 @@ use crate::{
     face::Face,
 };
 
+mod filters;
+
 /// What every lent byte holds before a call.
 const FILL: u8 = 0xA5;
 /// More than the longest slice that a case lends, to see a write past its end.
@@ -14,6 +16,7 @@ const LENT_LENGTH: usize = 48;
 pub enum Outcome {
     Number(Answer),
     Built(Lending),
+    Compiled(Lending),
     Read(Readings),
 }
 
@@ -44,6 +47,12 @@ impl Outcome {
             Case::BaseId(raw) => Outcome::Number(unsafe { (face.extended_id_standard_id)(*raw) }),
             Case::Build(build) => Outcome::Built(Lending::of_build(face, build)),
             Case::Read(read) => Outcome::Read(Readings::of(face, read)),
+            Case::Patterns(case) => Outcome::Compiled(Lending::of(case.room, |registers| {
+                filters::by_patterns(&face.filters, case, registers)
+            })),
+            Case::CodeMask(case) => Outcome::Compiled(Lending::of(case.room, |registers| {
+                filters::by_code_mask(&face.filters, case, registers)
+            })),
         }
     }
 
@@ -51,7 +60,7 @@ impl Outcome {
     pub fn refusals_write_nothing(&self) -> bool {
         match self {
             Outcome::Number(_) => true,
-            Outcome::Built(lending) => lending.refusal_writes_nothing(),
+            Outcome::Built(lending) | Outcome::Compiled(lending) => lending.refusal_writes_nothing(),
             Outcome::Read(readings) => readings.data.refusal_writes_nothing() && readings.used.refusal_writes_nothing(),
         }
     }

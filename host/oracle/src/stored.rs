@@ -1,18 +1,20 @@
 //! Answers as lines of text: a letter, then columns of lower-case hexadecimal digits.
 use crate::{
     answer::Answer,
-    case::{Build, Case, Constructor, Read},
-    face::FRAME_LENGTH,
+    case::{Build, Case, CodeMask, Constructor, Patterns, Read},
+    compiler::Compiler,
+    face::{FRAME_LENGTH, filters::REGISTERS_LENGTH},
     outcome::{Lending, Outcome, Readings},
 };
 
 /// What the lines mean, as the comment that stands before them.
 pub const LEGEND: &str = "\
-# Answers of the Rust driver (esp-hal 1.2.2, src/twai/mod.rs), unchanged, in the form of docs/ABI.md.
+# Answers of the Rust driver (esp-hal 1.2.2, src/twai/mod.rs and filter.rs), unchanged, in the form of docs/ABI.md.
 # Made by host/answers.
 # A line is a letter and columns of hexadecimal digits, two a byte, high byte first; in brackets: a column's bytes.
-# An answer is two columns, NUMBER (1) and VALUE (8). FRAME after an answer is the lent buffer after the call; before
-# it, each of its bytes was a5. An empty DATA leaves two spaces in a row, or nothing at the end of a line.
+# An answer is two columns, NUMBER (1) and VALUE (8). FRAME or REGISTERS after an answer is the lent buffer after
+# the call; before it, each of its bytes was a5. An empty column leaves two spaces in a row, or nothing at the end of a
+# line. KIND is 0 for the filter compiler single standard, 1 single extended, 2 dual standard, 3 dual extended.
 # s RAW(2) NUMBER VALUE: standard_id_new
 # e RAW(4) NUMBER VALUE: extended_id_new
 # t RAW(4) NUMBER VALUE: extended_id_standard_id
@@ -21,6 +23,8 @@ pub const LEGEND: &str = "\
 # m EXTENDED(1) ID(4) LENGTH(2) DATA(LENGTH) NUMBER VALUE FRAME(13): new_self_reception
 # r FRAME(13) EXTENDED(1) REMOTE(1) SELF(1) CODE(1) LENGTH(1) OFFSET(1) ID(4) USED(1) DATA(LENGTH): all readers
 #   of these 13 bytes; USED is how many of them as_slice gives
+# p KIND(1), for each pattern LENGTH(1) BYTES(LENGTH), NUMBER VALUE REGISTERS(8): new, of the compiler KIND
+# c KIND(1), for each argument its number (bool, u8: 1; u16: 2; u32: 4), NUMBER VALUE REGISTERS(8): new_from_code_mask
 ";
 
 /// The line for a case and what came of it; none for an outcome of another kind than the case.
@@ -31,6 +35,8 @@ pub fn line(case: &Case, outcome: &Outcome) -> Option<String> {
         (Case::BaseId(raw), Outcome::Number(answer)) => number_columns("t", hex(u64::from(*raw), 4), answer),
         (Case::Build(build), Outcome::Built(lending)) => build_columns(build, lending),
         (Case::Read(read), Outcome::Read(readings)) => read_columns(read, readings),
+        (Case::Patterns(case), Outcome::Compiled(lending)) => patterns_columns(case, lending),
+        (Case::CodeMask(case), Outcome::Compiled(lending)) => code_mask_columns(case, lending),
         _ => return None,
     };
     Some(columns.join(" ").trim_end().to_string())
@@ -74,11 +80,36 @@ fn read_columns(read: &Read, readings: &Readings) -> Vec<String> {
     ]
 }
 
+fn patterns_columns(case: &Patterns, lending: &Lending) -> Vec<String> {
+    let patterns = case.patterns.iter().flat_map(|pattern| [hex(pattern.len() as u64, 1), hex_of_bytes(pattern)]);
+    filter_columns("p", case.compiler, patterns, lending)
+}
+
+fn code_mask_columns(case: &CodeMask, lending: &Lending) -> Vec<String> {
+    let types = case.compiler.arguments().iter();
+    let arguments = case.arguments.iter().zip(types).map(|(number, argument)| hex((*number).into(), argument.width()));
+    filter_columns("c", case.compiler, arguments, lending)
+}
+
+fn filter_columns(
+    letter: &str,
+    compiler: Compiler,
+    given: impl Iterator<Item = String>,
+    lending: &Lending,
+) -> Vec<String> {
+    let mut columns = vec![letter.to_string(), hex(compiler as u64, 1)];
+    columns.extend(given);
+    columns.extend(answer_columns(&lending.answer));
+    columns.push(hex_of_bytes(&lending.lent[..REGISTERS_LENGTH]));
+    columns
+}
+
 fn answer_columns(answer: &Answer) -> [String; 2] {
     [hex(u64::from(answer.number), 1), hex(answer.value, 8)]
 }
 
 fn hex(value: u64, bytes: usize) -> String {
+    assert!(bytes == 8 || value >> (8 * bytes) == 0, "{value} is wider than its column");
     format!("{value:0digits$x}", digits = 2 * bytes)
 }
 

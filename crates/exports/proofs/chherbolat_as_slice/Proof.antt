@@ -1,7 +1,7 @@
 -- `exports::chherbolat_as_slice` meets its contract: a slice of 13 bytes is read as the buffer that it holds, and any other is refused. Assumes nothing.
 use borrow.Author.Needs.{needs}
 use Rattle.exports.specs.Answers.{written}
-use Rattle.exports.proofs.Whole.{whole-yes, whole-no}
+use Rattle.exports.proofs.Whole.{sized-yes, sized-no}
 use Rattle.exports.proofs.chherbolat_as_slice.Statement.{statement}
 use Rattle.exports.proofs.chherbolat_as_slice.Tie as tie
 
@@ -10,7 +10,7 @@ wrong-length-requires c κs = search needs
 
 returns : tie.Need-returns
 unfolding written
-returns c = (rw (whole-no _ _ _ (c .before .if1 .taken)) (c .wrong-length .ensures), rw (whole-no _ _ _ (c .before .if1 .taken)))
+returns c = (rw (sized-no _ _ _ _ (c .before .if1 .taken)) (c .wrong-length .ensures), rw (sized-no _ _ _ _ (c .before .if1 .taken)))
 
 buffer-requires : tie.Need-buffer-requires
 buffer-requires c κs = search needs
@@ -26,8 +26,8 @@ same-length c = search needs
 
 returns-2 : tie.Need-returns-2
 returns-2 c = (
-  rw (whole-yes _ _ _ (c .before .before .before .before .before .before .before .if1 .left), ← c .before .before .before .before .before .before .buffer .ensures, ← c .before .before .before .before .as-slice .ensures) (c .before .before .lay .ensures .0),
-  rw (whole-yes _ _ _ (c .before .before .before .before .before .before .before .if1 .left), ← c .before .before .before .before .before .before .buffer .ensures, ← c .before .before .before .before .as-slice .ensures) (c .before .before .lay .ensures .1),
+  rw (sized-yes _ _ _ _ (c .before .before .before .before .before .before .before .if1 .left), ← c .before .before .before .before .before .before .buffer .ensures, ← c .before .before .before .before .as-slice .ensures) (c .before .before .lay .ensures .0),
+  rw (sized-yes _ _ _ _ (c .before .before .before .before .before .before .before .if1 .left), ← c .before .before .before .before .before .before .buffer .ensures, ← c .before .before .before .before .as-slice .ensures) (c .before .before .lay .ensures .1),
 )
 
 pub chherbolat-as-slice-spec : {M : Type 1} → statement M

@@ -1,6 +1,6 @@
 -- `exports::chherbolat_data_length` meets its contract: a slice of 13 bytes is read as the buffer that it holds, and any other is refused. Assumes nothing.
 use borrow.Author.Needs.{needs}
-use Rattle.exports.proofs.Whole.{whole-yes, whole-no}
+use Rattle.exports.proofs.Whole.{sized-yes, sized-no}
 use Rattle.exports.proofs.chherbolat_data_length.Statement.{statement}
 use Rattle.exports.proofs.chherbolat_data_length.Tie as tie
 
@@ -8,7 +8,7 @@ wrong-length-requires : tie.Need-wrong-length-requires
 wrong-length-requires c κs = search needs
 
 returns : tie.Need-returns
-returns c = rw (whole-no _ _ _ (c .before .if1 .taken)) (c .wrong-length .ensures)
+returns c = rw (sized-no _ _ _ _ (c .before .if1 .taken)) (c .wrong-length .ensures)
 
 buffer-requires : tie.Need-buffer-requires
 buffer-requires c κs = search needs
@@ -20,7 +20,7 @@ given-requires : tie.Need-given-requires
 given-requires c κs = search needs
 
 returns-2 : tie.Need-returns-2
-returns-2 c = rw (whole-yes _ _ _ (c .before .before .before .before .if1 .left), ← c .before .before .before .buffer .ensures, ← c .before .data-length .ensures) (c .given .ensures)
+returns-2 c = rw (sized-yes _ _ _ _ (c .before .before .before .before .if1 .left), ← c .before .before .before .buffer .ensures, ← c .before .data-length .ensures) (c .given .ensures)
 
 pub chherbolat-data-length-spec : {M : Type 1} → statement M
 chherbolat-data-length-spec =

@@ -6,17 +6,19 @@ use borrow.Author.Needs.{needs}
 use Rattle.frames.specs.Building.{buildOf}
 use Rattle.exports.specs.Answers.{written}
 use Rattle.exports.specs.Frames.{plain}
-use Rattle.exports.proofs.Whole.{whole-no}
-use Rattle.exports.proofs.Delivered.{delivered, asked-plain, none-delivered}
+use Rattle.exports.proofs.Whole.{sized-no, delivered}
+use Rattle.exports.proofs.Delivered.{asked-plain, none-built}
 use Rattle.exports.proofs.chherbolat_new_self_reception.Statement.{statement}
 use Rattle.exports.proofs.chherbolat_new_self_reception.Tie as tie
+
+-- `exports::chherbolat_new_self_reception` meets its contract: building by plain numbers is building by identifiers (proofs/Delivered.antt). Assumes nothing.
 
 wrong-length-requires : tie.Need-wrong-length-requires
 wrong-length-requires c κs = search needs
 
 returns : tie.Need-returns
 unfolding written
-returns c = (rw (whole-no _ _ _ (c .before .if1 .taken)) (c .wrong-length .ensures), rw (whole-no _ _ _ (c .before .if1 .taken)))
+returns c = (rw (sized-no _ _ _ _ (c .before .if1 .taken)) (c .wrong-length .ensures), rw (sized-no _ _ _ _ (c .before .if1 .taken)))
 
 id-of-requires : tie.Need-id-of-requires
 id-of-requires c κs = search needs
@@ -45,15 +47,16 @@ returns-2 c =
     let payload = args .«data» .now in
     let made = sym (c .before .before .before .before .before .before .before .before .id-of .ensures) ∙ c .before .before .before .before .before .before .id .given .1 in
     let built = c .before .before .before .before .new-self-reception .ensures ∙ ap buildOf (asked-plain (args .extended) (args .id) _ made false true (length payload) payload) in
-    let both = delivered (c .before .before .before .before .new-self-reception .result) 3 (args .frame .now) (plain (args .extended) (args .id) false true (length payload) payload) (c .before .before .before .before .before .before .before .before .before .if1 .left) built in
+    let both = delivered 13 3 (args .frame .now) _ _ (c .before .before .before .before .before .before .before .before .before .if1 .left) built in
     (c .before .before .deliver .ensures .0 ∙ both .0, c .before .before .deliver .ensures .1 ∙ both .1)
 
 returns-3 : tie.Need-returns-3
+unfolding written
 returns-3 c =
     let args = c .before .before .before .before .before .before .before .before .args in
     let payload = args .«data» .now in
-    let none = sym (c .before .before .before .before .id-of .ensures) ∙ c .before .before .refusal .given .1 in
-    let both = none-delivered 3 (args .frame .now) (plain (args .extended) (args .id) false true (length payload) payload) _ (c .before .before .before .before .before .if1 .left) none in
+    let none = none-built (plain (args .extended) (args .id) false true (length payload) payload) _ (sym (c .before .before .before .before .id-of .ensures) ∙ c .before .before .refusal .given .1) in
+    let both = delivered 13 3 (args .frame .now) _ _ (c .before .before .before .before .before .if1 .left) (sym none) in
     (c .refused .ensures ∙ both .0, both .1)
 
 pub chherbolat-new-self-reception-spec : {M : Type 1} → statement M

@@ -6,8 +6,8 @@ use compare::library::LIBRARY;
 use oracle::{
     case::Case,
     cases::{self, OUT_LENGTH},
-    driver::DRIVER,
-    face::FRAME_LENGTH,
+    driver::{DRIVER, filters::silence_refusals},
+    face::{FRAME_LENGTH, filters::REGISTERS_LENGTH},
     outcome::Outcome,
 };
 use original::source;
@@ -24,6 +24,7 @@ fn main() {
     if arguments.get(1).is_none_or(|word| word != "changed") {
         check_source();
     }
+    silence_refusals();
     let mut tally = Tally::default();
     cases::all(count, &mut |case| tally.compare(case));
     tally.print();
@@ -39,11 +40,12 @@ fn check_source() {
     }
 }
 
-/// How many cases of each kind, and how many frames by the number of the answer to building them.
+/// How many cases of each kind, and how many frames and filters by the number of the answer.
 #[derive(Default)]
 struct Tally {
     kinds: BTreeMap<&'static str, u64>,
     built: BTreeMap<u32, u64>,
+    compiled: BTreeMap<u32, u64>,
 }
 
 impl Tally {
@@ -60,18 +62,24 @@ impl Tally {
             stop(&before, "what was lent for reading was changed");
         }
         *self.kinds.entry(kind(&case)).or_default() += 1;
-        if let Outcome::Built(lending) = library {
-            *self.built.entry(lending.answer.number).or_default() += 1;
+        match library {
+            Outcome::Built(lending) => *self.built.entry(lending.answer.number).or_default() += 1,
+            Outcome::Compiled(lending) => *self.compiled.entry(lending.answer.number).or_default() += 1,
+            Outcome::Number(_) | Outcome::Read(_) => {}
         }
     }
 
     fn print(&self) {
         let kinds: Vec<String> = self.kinds.iter().map(|(kind, count)| format!("{} {kind}", grouped(*count))).collect();
-        let built: Vec<String> =
-            self.built.iter().map(|(number, count)| format!("{number}: {}", grouped(*count))).collect();
-        println!("answers to building, by number: {}", built.join(", "));
+        println!("answers to building, by number: {}", by_number(&self.built));
+        println!("answers to compiling filters, by number: {}", by_number(&self.compiled));
         println!("compared: {}; 0 differ", kinds.join(", "));
     }
+}
+
+fn by_number(counts: &BTreeMap<u32, u64>) -> String {
+    let counts: Vec<String> = counts.iter().map(|(number, count)| format!("{number}: {}", grouped(*count))).collect();
+    counts.join(", ")
 }
 
 fn stop(case: &Case, why: &str) -> ! {
@@ -86,7 +94,9 @@ fn kind(case: &Case) -> &'static str {
         Case::Read(read) if read.frame.len() == FRAME_LENGTH && read.room == OUT_LENGTH => {
             "frames read by nine readers"
         }
-        Case::Build(_) | Case::Read(_) => "lent slices of other lengths",
+        Case::Patterns(case) if case.room == REGISTERS_LENGTH => "filters by patterns",
+        Case::CodeMask(case) if case.room == REGISTERS_LENGTH => "filters by code and mask",
+        Case::Build(_) | Case::Read(_) | Case::Patterns(_) | Case::CodeMask(_) => "lent slices of other lengths",
     }
 }
 

@@ -1,7 +1,12 @@
 //! Prints the driver's answers to the sample, each once.
 use std::{collections::HashSet, process::ExitCode};
 
-use oracle::{cases, driver::DRIVER, outcome::Outcome, stored};
+use oracle::{
+    cases,
+    driver::{DRIVER, filters::silence_refusals},
+    outcome::Outcome,
+    stored,
+};
 use original::source;
 
 fn main() -> ExitCode {
@@ -9,6 +14,7 @@ fn main() -> ExitCode {
         eprintln!("{change}");
         return ExitCode::FAILURE;
     }
+    silence_refusals();
     print!("{}", stored::LEGEND);
     let mut printed = HashSet::new();
     cases::sample(&mut |case| {

@@ -11,6 +11,8 @@ use oracle::{
 };
 use original::twai::{EspTwaiFrame, probe};
 
+mod filters;
+
 struct Row {
     name: &'static str,
     work: Work,
@@ -79,13 +81,35 @@ fn main() {
     let arguments: Vec<String> = std::env::args().skip(1).collect();
     let arguments: Vec<&str> = arguments.iter().map(String::as_str).collect();
     match arguments[..] {
-        ["list"] => ROWS.iter().for_each(|row| println!("{}", row.name)),
-        [row, side, times] => run(&ROWS[row.parse::<usize>().unwrap()], side, times.parse().unwrap()),
+        ["list"] => names().for_each(|name| println!("{name}")),
+        [row, side, times] => run(row.parse().unwrap(), side, times.parse().unwrap()),
         _ => panic!("usage: cost list, or cost ROW SIDE TIMES"),
     }
 }
 
-fn run(row: &Row, side: &str, times: u64) {
+fn names() -> impl Iterator<Item = &'static str> {
+    ROWS.iter().map(|row| row.name).chain(filters::ROWS.iter().map(|row| row.name))
+}
+
+fn run(row: usize, side: &str, times: u64) {
+    match ROWS.get(row) {
+        Some(row) => run_frames(row, side, times),
+        None => run_filters(&filters::ROWS[row - ROWS.len()], side, times),
+    }
+}
+
+fn run_filters(row: &filters::Row, side: &str, times: u64) {
+    match side {
+        "driver" => filters::by_face(&black_box(&DRIVER).filters, row, times),
+        "library" => filters::by_face(&black_box(&LIBRARY).filters, row, times),
+        "bare" => filters::bare(row, times),
+        _ => repeat(times, || {
+            black_box(row);
+        }),
+    }
+}
+
+fn run_frames(row: &Row, side: &str, times: u64) {
     match side {
         "driver" => by_face(black_box(&DRIVER), row, times),
         "library" => by_face(black_box(&LIBRARY), row, times),

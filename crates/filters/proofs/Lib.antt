@@ -1,0 +1,11 @@
+pub mod Table
+pub mod Characters
+pub mod Words
+pub mod Registers
+pub mod Answers
+pub mod Laid
+pub mod Agree
+pub mod Means
+pub mod Back
+pub mod Only
+pub mod Builders

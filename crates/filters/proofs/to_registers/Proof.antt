@@ -1,0 +1,52 @@
+-- `filters::to_registers` meets its contract: each half is the four bytes of its word. Assumes nothing.
+use Prim.Native.Nat.{_-_}
+use mathlib.Core.Path.{ap₂}
+use mathlib.Core.List.{_++_}
+use native.Mathlib.Omega.{arith}
+use borrow.Author.Needs.{needs}
+use Rattle.filters.proofs.Registers.{four-bytes}
+use Rattle.filters.proofs.to_registers.Statement.{statement}
+use Rattle.filters.proofs.to_registers.Tie as tie
+
+low-byte-requires : tie.Need-low-byte-requires
+low-byte-requires c κs = search needs
+
+low-byte-requires-2 : tie.Need-low-byte-requires-2
+low-byte-requires-2 c κs = search needs
+
+low-byte-requires-3 : tie.Need-low-byte-requires-3
+low-byte-requires-3 c κs = search needs
+
+low-byte-requires-4 : tie.Need-low-byte-requires-4
+low-byte-requires-4 c κs = search needs
+
+low-byte-requires-5 : tie.Need-low-byte-requires-5
+low-byte-requires-5 c κs = search needs
+
+low-byte-requires-6 : tie.Need-low-byte-requires-6
+low-byte-requires-6 c κs = search needs
+
+low-byte-requires-7 : tie.Need-low-byte-requires-7
+low-byte-requires-7 c κs = search needs
+
+low-byte-requires-8 : tie.Need-low-byte-requires-8
+low-byte-requires-8 c κs = search needs
+
+returns : tie.Need-returns
+returns c = ap₂ _++_
+    (four-bytes (c .before .before .before .before .before .before .before .before .args .code) _ _ _ _ (omega arith) (c .before .before .before .before .before .before .before .low-byte .ensures) (c .before .before .before .before .before .before .low-byte2 .ensures) (c .before .before .before .before .before .low-byte3 .ensures) (c .before .before .before .before .low-byte4 .ensures))
+    (four-bytes (4294967295 - c .before .before .before .before .before .before .before .before .args .mask) _ _ _ _ (omega arith) (c .before .before .before .low-byte5 .ensures) (c .before .before .low-byte6 .ensures) (c .before .low-byte7 .ensures) (c .low-byte8 .ensures))
+
+pub to-registers-spec : {M : Type 1} → statement M
+to-registers-spec =
+    tie.close
+    (tie.spec
+    low-byte-requires
+    low-byte-requires-2
+    low-byte-requires-3
+    low-byte-requires-4
+    low-byte-requires-5
+    low-byte-requires-6
+    low-byte-requires-7
+    low-byte-requires-8
+    returns)

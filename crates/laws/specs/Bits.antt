@@ -1,0 +1,6 @@
+-- The bits of a number.
+use Prim.Native.Nat.{ℕ, _/_, _%_, _^_}
+
+-- the bit at a position, counted from the lowest, which is 0
+abbrev pub bitAt : ℕ → ℕ → ℕ
+bitAt w k = w / 2 ^ k % 2
