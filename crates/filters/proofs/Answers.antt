@@ -1,20 +1,22 @@
 -- The answers of a compile, each from the tests that lead to it. Assumes nothing.
-use Prim.Native.Nat.{ℕ, suc, _+_, _-_, _≤_, _<_}
-use mathlib.Core.Path.{_≡_, refl, sym, ap₂, _∙_}
+use Prim.Native.Nat.{ℕ, suc, _+_, _-_, _≤_}
+use mathlib.Core.Path.{_≡_, refl, sym, ap, ap₂, _∙_}
 use mathlib.Core.Bool.{Bool, true, false, cond}
-use mathlib.Core.List.{List, [], _∷_}
-use lib.Dec.{T, eqb, ltb, leb, leb→le}
+use mathlib.Core.List.{List, [], _∷_, _++_}
+use lib.Dec.{T, eqb, leb, leb→le}
 use lib.ListN.{length, take, drop, replicate, length-append}
 use native.Mathlib.Omega.{arith}
-use borrow.Author.Tests.{eqb-true, ltb-true}
+use borrow.Author.Tests.{eqb-true}
 use Rattle.laws.specs.Said.{Said, refuses, gives}
 use Rattle.laws.proofs.Bools.{both-left, both-right}
 use Rattle.identifiers.specs.Limits.{limitOf}
 use Rattle.filters.specs.Table.{Filter, fieldsOf, joined, places}
-use Rattle.filters.specs.Words.{one, care, wordFrom, laidOf, badAt, badFrom}
+use Rattle.filters.specs.Words.{one, care, wordFrom, codeOf, maskOf, laidOf}
 use Rattle.filters.specs.Registers.{registersOf}
 use Rattle.filters.specs.Answers.{lengthsOf, charactersOf, answered, compileBy, bothWithin, codeMaskOf}
-use Rattle.filters.proofs.Words.{bad-is, word-take}
+use Rattle.filters.proofs.Characters.{one-not, care-not}
+use Rattle.filters.proofs.Words.{word-take}
+use Rattle.filters.proofs.Joined.{word-spared, said-spared}
 
 -- ---- lengths
 pub lengths-pass : (field : ℕ) (ns ls : List ℕ) (rest : Said ℕ) → lengthsOf field ns ls (gives 8) ≡ gives 8 → lengthsOf field ns ls rest ≡ rest
@@ -59,30 +61,6 @@ lengths-five a b c d e la lb lc ld le h =
     let same = lengths-given 0 (a ∷ b ∷ c ∷ d ∷ e ∷ []) (la ∷ lb ∷ lc ∷ ld ∷ le ∷ []) (gives 8) h .0 in
     (cc, cc, cc, cc, cc)
 
--- ---- characters
-module _ (none at b : ℕ) (s : List ℕ) (room : at + length s ≤ none) (e : b ≡ badFrom none at s) where
-  found : b < none → ltb (badAt s) (length s) ≡ true
-  found h = cases (ltb (badAt s) (length s)) (e ∙ bad-is none at s room)
-    where
-      cases : (t : Bool) → b ≡ cond t (at + badAt s) none → t ≡ true
-      cases true p = refl
-      cases false p = absurd (omega arith)
-
-  pub bad-found : b < none → b ≡ at + badAt s
-  bad-found h = (e ∙ bad-is none at s room) ∙ rw (found h)
-
-  pub bad-refused : b < none → charactersOf s ≡ refuses 5 (b - at)
-  bad-refused h =
-      let p : b - at ≡ badAt s = omega (arith, bad-found h) in
-      rw (found h, p)
-
-  pub bad-clear : none ≤ b → charactersOf s ≡ gives 8
-  bad-clear h = cases (ltb (badAt s) (length s)) refl (e ∙ bad-is none at s room)
-    where
-      cases : (t : Bool) → ltb (badAt s) (length s) ≡ t → b ≡ cond t (at + badAt s) none → cond {A = Said ℕ} t (refuses 5 (badAt s)) (gives 8) ≡ gives 8
-      cases true q p = absurd (omega (arith, ltb-true (badAt s) (length s) q))
-      cases false q p = refl
-
 -- ---- the answer
 pub answered-refused : (said : Said ℕ) (registers : List ℕ) (k v : ℕ) → said ≡ refuses k v → _≡_ {A = Said ℕ × List ℕ} (refuses k v, replicate 8 0) (answered said registers)
 answered-refused said registers k v e = rw e
@@ -115,27 +93,26 @@ module _ (start a b c d e : ℕ) (p q r s t : List ℕ) where
       → _≡_ {A = Said ℕ × List ℕ} (refuses k v, replicate 8 0) (compileBy (a ∷ b ∷ c ∷ d ∷ e ∷ []) row (p ∷ q ∷ r ∷ s ∷ t ∷ []))
   length-refused row k v h = answered-refused _ _ k v (lengths-stop 0 (a ∷ b ∷ c ∷ d ∷ e ∷ []) (length p ∷ length q ∷ length r ∷ length s ∷ length t ∷ []) _ k v h)
 
-  module _ (room : start + a + b + c + d + e ≤ 122)
+  module _ (room : a + b + c + d + e ≤ 32)
       (made : lengthsOf 0 (a ∷ b ∷ c ∷ d ∷ e ∷ []) (length p ∷ length q ∷ length r ∷ length s ∷ length t ∷ []) (gives 8) ≡ gives 8) where
-    pub fits : start + length p + length q + length r + length s + length t ≤ 122
+    pub fits : length p + length q + length r + length s + length t ≤ 32
     fits = omega (arith, lengths-five a b c d e _ _ _ _ _ made)
 
     whole : length (joined (p ∷ q ∷ r ∷ s ∷ t ∷ [])) ≡ a + b + c + d + e
     whole = simp length-append (omega (arith, lengths-five a b c d e _ _ _ _ _ made))
 
-    module _ (bad : ℕ) (first : bad ≡ badFrom 122 start (joined (p ∷ q ∷ r ∷ s ∷ t ∷ []))) where
-      pub after-start : bad < 122 → start ≤ bad
-      after-start h = omega (arith, bad-found 122 start bad (joined (p ∷ q ∷ r ∷ s ∷ t ∷ [])) (omega (arith, whole)) first h)
+    laid : (digit : ℕ → ℕ) → digit 120 ≡ 0 → (k : ℕ) → wordFrom digit 0 (drop start places) (joined (p ∷ q ∷ r ∷ s ∷ t ∷ []) ++ replicate k 120)
+        ≡ wordFrom digit 0 (take (a + b + c + d + e) (drop start places)) (joined (p ∷ q ∷ r ∷ s ∷ t ∷ []))
+    laid digit z k =
+        word-spared digit z 0 (drop start places) (joined (p ∷ q ∷ r ∷ s ∷ t ∷ [])) k
+        ∙ sym (word-take digit 0 (a + b + c + d + e) (drop start places) (joined (p ∷ q ∷ r ∷ s ∷ t ∷ [])) (omega (arith, whole)))
 
-      pub byte-refused : (row : List ℕ) → bad < 122 → _≡_ {A = Said ℕ × List ℕ} (refuses 5 (bad - start), replicate 8 0) (compileBy (a ∷ b ∷ c ∷ d ∷ e ∷ []) row (p ∷ q ∷ r ∷ s ∷ t ∷ []))
-      byte-refused row h = answered-refused _ _ 5 (bad - start) (lengths-pass 0 (a ∷ b ∷ c ∷ d ∷ e ∷ []) (length p ∷ length q ∷ length r ∷ length s ∷ length t ∷ []) _ made ∙ bad-refused 122 start bad (joined (p ∷ q ∷ r ∷ s ∷ t ∷ [])) (omega (arith, whole)) first h)
-
-      pub all-made : 122 ≤ bad → (code mask : ℕ)
-          → code ≡ wordFrom one 0 (drop start places) (joined (p ∷ q ∷ r ∷ s ∷ t ∷ [])) → mask ≡ wordFrom care 0 (drop start places) (joined (p ∷ q ∷ r ∷ s ∷ t ∷ []))
-          → _≡_ {A = Said ℕ × List ℕ} (gives 8, registersOf code mask) (compileBy (a ∷ b ∷ c ∷ d ∷ e ∷ []) (take (a + b + c + d + e) (drop start places)) (p ∷ q ∷ r ∷ s ∷ t ∷ []))
-      all-made h code mask ec em =
-          answered-made _ _ _ (lengths-pass 0 (a ∷ b ∷ c ∷ d ∷ e ∷ []) (length p ∷ length q ∷ length r ∷ length s ∷ length t ∷ []) _ made ∙ bad-clear 122 start bad (joined (p ∷ q ∷ r ∷ s ∷ t ∷ [])) (omega (arith, whole)) first h)
-          (ap₂ registersOf (ec ∙ sym (taken one)) (em ∙ sym (taken care)))
-        where
-          taken : (digit : ℕ → ℕ) → wordFrom digit 0 (take (a + b + c + d + e) (drop start places)) (joined (p ∷ q ∷ r ∷ s ∷ t ∷ [])) ≡ wordFrom digit 0 (drop start places) (joined (p ∷ q ∷ r ∷ s ∷ t ∷ []))
-          taken digit = word-take digit 0 (a + b + c + d + e) (drop start places) (joined (p ∷ q ∷ r ∷ s ∷ t ∷ [])) (omega (arith, whole))
+    pub all-made : (cs : List ℕ) → cs ≡ joined (p ∷ q ∷ r ∷ s ∷ t ∷ []) ++ replicate (32 - length (joined (p ∷ q ∷ r ∷ s ∷ t ∷ []))) 120
+        → answered (charactersOf cs) (registersOf (codeOf (drop start places) cs) (maskOf (drop start places) cs))
+        ≡ compileBy (a ∷ b ∷ c ∷ d ∷ e ∷ []) (take (a + b + c + d + e) (drop start places)) (p ∷ q ∷ r ∷ s ∷ t ∷ [])
+    all-made cs h =
+        let k = 32 - length (joined (p ∷ q ∷ r ∷ s ∷ t ∷ [])) in
+        ap (λ (l : List ℕ). answered (charactersOf l) (registersOf (codeOf (drop start places) l) (maskOf (drop start places) l))) h
+        ∙ ap₂ answered
+        (said-spared (joined (p ∷ q ∷ r ∷ s ∷ t ∷ [])) k ∙ sym (lengths-pass 0 (a ∷ b ∷ c ∷ d ∷ e ∷ []) (length p ∷ length q ∷ length r ∷ length s ∷ length t ∷ []) _ made))
+        (ap₂ registersOf (laid one (one-not 120 (λ z. omega arith)) k) (laid care (care-not 120 refl) k))

@@ -20,7 +20,7 @@ pub flag-lt : (b : Bool) → bit b < 2
 flag-lt true = omega arith
 flag-lt false = omega arith
 
-one-digit : (d : ℕ) → d < 2 → one (48 + d) ≡ d
+pub one-digit : (d : ℕ) → d < 2 → one (48 + d) ≡ d
 unfolding one
 one-digit d h = elim (ℕ-discrete d 0) [ yes e ↦ rw e | no n ↦ (let e : d ≡ 1 = omega arith in rw e) ]
 

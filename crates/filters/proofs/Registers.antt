@@ -1,8 +1,8 @@
 -- The registers hold both words: four bytes in a row are the number that they draw. Assumes nothing.
-use Prim.Native.Nat.{ℕ, _-_, _/_, _%_, _^_, _<_}
+use Prim.Native.Nat.{ℕ, _+_, _-_, _*_, _/_, _%_, _^_, _<_}
 use mathlib.Core.Logic.{_↔_}
-use mathlib.Core.Path.{_≡_, sym, ap, _∙_}
-use mathlib.Core.List.{[], _∷_}
+use mathlib.Core.Path.{_≡_, sym, ap, ap₂, _∙_}
+use mathlib.Core.List.{[], _∷_, _++_}
 use native.Mathlib.Decide.{decLt}
 use native.Mathlib.Omega.{arith}
 use Rattle.laws.specs.Row.{unpack, bytes}
@@ -20,6 +20,16 @@ four-bytes w a b c d h ea eb ec ed =
     let pc : c ≡ w % 16777216 % 65536 / 256 = omega arith in
     let pd : d ≡ w % 16777216 % 65536 % 256 / 1 = omega arith in
     rw (pa, pb, pc, pd)
+
+-- the eight bytes of one word that has both
+pub eight-bytes : (code mask w a b c d e f g h : ℕ) → code < 2 ^ 32 → mask < 2 ^ 32 → w ≡ code * 2 ^ 32 + 4294967295 - mask
+    → a ≡ w / 2 ^ 56 % 256 → b ≡ w / 2 ^ 48 % 256 → c ≡ w / 2 ^ 40 % 256 → d ≡ w / 2 ^ 32 % 256
+    → e ≡ w / 2 ^ 24 % 256 → f ≡ w / 2 ^ 16 % 256 → g ≡ w / 2 ^ 8 % 256 → h ≡ w % 256
+    → a ∷ b ∷ c ∷ d ∷ e ∷ f ∷ g ∷ h ∷ [] ≡ registersOf code mask
+eight-bytes code mask w a b c d e f g h hc hm sum ea eb ec ed ee ef eg eh =
+    ap₂ _++_
+    (four-bytes code a b c d hc (omega arith) (omega arith) (omega arith) (omega arith))
+    (four-bytes (2 ^ 32 - 1 - mask) e f g h (omega arith) (omega arith) (omega arith) (omega arith) (omega arith))
 
 pub code-back : (code mask : ℕ) → code < 2 ^ 32 → codeIn (registersOf code mask) ≡ code
 code-back code mask h = pack-unpack (bytes 4) code h

@@ -3,21 +3,20 @@
 use Prim.Native.Nat.{ℕ, zero, suc, _+_, _*_, _^_, _≤_, _<_, min}
 use mathlib.Core.Path.{_≡_, refl, sym, _∙_}
 use mathlib.Core.Bool.{Bool, true, false, cond}
-use mathlib.Core.List.{List, [], _∷_, _++_}
+use mathlib.Core.List.{List, [], _∷_}
 use lib.Bits.{bitOr}
 use lib.Dec.{ltb, leb·suc-suc}
-use lib.ListN.{length, getD, drop, take, length-drop}
-use lib.Seq.{drop-cons, drop-length, drop-drop}
+use lib.ListN.{length, getD, drop, take}
+use lib.Seq.{drop-cons, drop-length}
 use native.Mathlib.Nat.{add-suc, add-zero, suc-add, not-suc-le-zero, le-of-suc-le-suc}
 use native.Mathlib.Numerals.{add-one}
 use native.Mathlib.Omega.{arith}
 use borrow.Author.Tests.{lt-ltb}
-use Rattle.filters.specs.Table.{joined}
 use Rattle.filters.specs.Words.{wordFrom, badFrom, badAt, isCharacter}
 
 -- ---- the words
 module _ (digit : ℕ → ℕ) where
-  word-none : (w : ℕ) (ps : List ℕ) → wordFrom digit w ps [] ≡ w
+  pub word-none : (w : ℕ) (ps : List ℕ) → wordFrom digit w ps [] ≡ w
   unfolding wordFrom
   word-none w [] = refl
   word-none w (p ∷ ps) = refl
@@ -33,14 +32,6 @@ module _ (digit : ℕ → ℕ) where
   unfolding wordFrom
   word-turn ps s at i w v r h k e q =
       rw (add-one, add-suc, e) (sym (rw (drop-cons ps (at + i) 0, drop-cons s i 0)) ∙ q)
-
-  pub word-append : (w : ℕ) (ps s t : List ℕ) → length s ≤ length ps
-      → wordFrom digit w ps (s ++ t) ≡ wordFrom digit (wordFrom digit w ps s) (drop (length s) ps) t
-  unfolding wordFrom
-  word-append w [] [] t h = refl
-  word-append w [] (c ∷ s) t h = absurd (omega arith)
-  word-append w (p ∷ ps) [] t h = refl
-  word-append w (p ∷ ps) (c ∷ s) t h = word-append (bitOr w (digit c * 2 ^ p)) ps s t (omega arith)
 
   -- positions past the last character are not used
   pub word-take : (w n : ℕ) (ps cs : List ℕ) → length cs ≤ n → wordFrom digit w (take n ps) cs ≡ wordFrom digit w ps cs
@@ -60,52 +51,10 @@ bad-end b v at s i h k e =
     let done : badFrom b at (drop i s) ≡ b = rw (all, drop-length) in
     sym done ∙ e
 
-pub bad-turn : (s : List ℕ) (at i b v r : ℕ) → i < length s → v ≡ cond (isCharacter (getD s i 0)) b (min b (at + i))
-    → badFrom b (at + i) (drop i s) ≡ r → badFrom v (at + (i + 1)) (drop (i + 1) s) ≡ r
+pub bad-turn : (s : List ℕ) (i b v r : ℕ) → i < length s → v ≡ cond (isCharacter (getD s i 0)) b (min b i)
+    → badFrom b i (drop i s) ≡ r → badFrom v (i + 1) (drop (i + 1) s) ≡ r
 unfolding badFrom
-bad-turn s at i b v r h e q = rw (add-one, add-suc, e) (sym (rw (drop-cons s i 0)) ∙ q)
-
-pub bad-append : (b at : ℕ) (s t : List ℕ) → badFrom b at (s ++ t) ≡ badFrom (badFrom b at s) (at + length s) t
-unfolding badFrom
-bad-append b at [] t = rw add-zero
-bad-append b at (c ∷ s) t = rw (add-suc, ← suc-add) (bad-append (cond (isCharacter c) b (min b at)) (suc at) s t)
-
--- ---- five fields, one after the other
-module _ (digit : ℕ → ℕ) (ps : List ℕ) where
-  word-next : (w v at : ℕ) (s t : List ℕ) → at + length s ≤ length ps → v ≡ wordFrom digit w (drop at ps) s
-      → wordFrom digit w (drop at ps) (s ++ t) ≡ wordFrom digit v (drop (at + length s) ps) t
-  word-next w v at s t h e = rw (e, ← drop-drop) (word-append digit w (drop at ps) s t (rw length-drop (omega arith)))
-
-  pub word-five : (at : ℕ) (a b c d e : List ℕ) (u v w x y : ℕ) → at + length a + length b + length c + length d + length e ≤ length ps
-      → u ≡ wordFrom digit 0 (drop at ps) a
-      → v ≡ wordFrom digit u (drop (at + length a) ps) b
-      → w ≡ wordFrom digit v (drop (at + length a + length b) ps) c
-      → x ≡ wordFrom digit w (drop (at + length a + length b + length c) ps) d
-      → y ≡ wordFrom digit x (drop (at + length a + length b + length c + length d) ps) e
-      → y ≡ wordFrom digit 0 (drop at ps) (joined (a ∷ b ∷ c ∷ d ∷ e ∷ []))
-  word-five at a b c d e u v w x y fits eu ev ew ex ey =
-      sym
-      (word-next 0 u at a (b ++ (c ++ (d ++ (e ++ [])))) (omega arith) eu
-      ∙ word-next u v (at + length a) b (c ++ (d ++ (e ++ []))) (omega arith) ev
-      ∙ word-next v w (at + length a + length b) c (d ++ (e ++ [])) (omega arith) ew
-      ∙ word-next w x (at + length a + length b + length c) d (e ++ []) (omega arith) ex
-      ∙ word-next x y (at + length a + length b + length c + length d) e [] fits ey
-      ∙ word-none digit y (drop (at + length a + length b + length c + length d + length e) ps))
-
-bad-next : (b v at : ℕ) (s t : List ℕ) → v ≡ badFrom b at s → badFrom b at (s ++ t) ≡ badFrom v (at + length s) t
-bad-next b v at s t e = rw e (bad-append b at s t)
-
-pub bad-five : (at : ℕ) (a b c d e : List ℕ) (t u v w x y : ℕ) → u ≡ badFrom t at a → v ≡ badFrom u (at + length a) b
-    → w ≡ badFrom v (at + length a + length b) c → x ≡ badFrom w (at + length a + length b + length c) d
-    → y ≡ badFrom x (at + length a + length b + length c + length d) e → y ≡ badFrom t at (joined (a ∷ b ∷ c ∷ d ∷ e ∷ []))
-unfolding badFrom
-bad-five at a b c d e t u v w x y eu ev ew ex ey =
-    sym
-    (bad-next t u at a (b ++ (c ++ (d ++ (e ++ [])))) eu
-    ∙ bad-next u v (at + length a) b (c ++ (d ++ (e ++ []))) ev
-    ∙ bad-next v w (at + length a + length b) c (d ++ (e ++ [])) ew
-    ∙ bad-next w x (at + length a + length b + length c) d (e ++ []) ex
-    ∙ bad-next x y (at + length a + length b + length c + length d) e [] ey)
+bad-turn s i b v r h e q = rw (add-one, e) (sym (rw (drop-cons s i 0)) ∙ q)
 
 -- ---- the first bad place so far is that of the whole
 bad-keeps : (b at : ℕ) (s : List ℕ) → b ≤ at → badFrom b at s ≡ b

@@ -4,7 +4,7 @@ use Prim.Native.Nat.{ℕ, _+_, _^_, _<_}
 use mathlib.Core.Path.{_≡_}
 use mathlib.Core.Logic.{_↔_}
 use mathlib.Core.Bool.{Bool, true, cond, not, _&&_}
-use mathlib.Core.List.{List, [], _∷_}
+use mathlib.Core.List.{List, [], _∷_, map}
 use lib.Dec.{eqb, ltb}
 use lib.ListN.{length, getD}
 use Rattle.laws.specs.Bits.{bitAt}
@@ -54,12 +54,10 @@ abbrev pub characterIn : List ℕ → ℕ → ℕ
 characterIn registers p = cond (eqb (bitAt (maskIn registers) p) 1) 120 (48 + bitAt (codeIn registers) p)
 
 abbrev pub charactersIn : List ℕ → List ℕ → List ℕ
-charactersIn registers [] = []
-charactersIn registers (p ∷ ps) = characterIn registers p ∷ charactersIn registers ps
+charactersIn registers ps = map (characterIn registers) ps
 
 abbrev pub patternsIn : List ℕ → List (List ℕ) → List (List ℕ)
-patternsIn registers [] = []
-patternsIn registers (f ∷ fs) = charactersIn registers f ∷ patternsIn registers fs
+patternsIn registers fields = map (charactersIn registers) fields
 
 -- two register sets mean the same: they accept the same words
 abbrev pub SameMeaning : List ℕ → List ℕ → Type 0

@@ -1,17 +1,19 @@
 // Filters: the acceptance registers of the four filters, from patterns and from code and mask.
 ghost use mathlib.Core.Path.{_≡_};
 ghost use mathlib.Core.Bool.{true, false, cond, _&&_};
-ghost use mathlib.Core.List.{_∷_, []};
-ghost use Prim.Native.Nat.{_+_, _*_, _%_, _^_, _<_, _≤_, min};
+ghost use mathlib.Core.List.{_∷_, [], _++_};
+ghost use Prim.Native.Nat.{_+_, _-_, _*_, _/_, _%_, _^_, _<_, _≤_, min};
 ghost use lib.Bits.{bitOr};
-ghost use lib.ListN.{length, drop, take, getD, replicate};
+ghost use lib.ListN.{length, drop, getD, replicate};
+ghost use lib.Seq.{paste};
 ghost use Rattle.laws.specs.Row.{bit};
 ghost use Rattle.laws.specs.Said.{gives};
 ghost use Rattle.refusals.specs.Table.{refusalSaid};
 ghost use Rattle.filters.specs.Table.{singleStandard, singleExtended, dualStandard, dualExtended, fieldsOf, joined, places};
-ghost use Rattle.filters.specs.Words.{one, care, isCharacter, wordFrom, badFrom, laidOf};
+ghost use Rattle.filters.specs.Words.{one, care, isCharacter, codeOf, maskOf, badFrom, laidOf};
+ghost use Rattle.filters.specs.Meaning.{allCharacters};
 ghost use Rattle.filters.specs.Registers.{registersOf};
-ghost use Rattle.filters.specs.Answers.{lengthsOf, compileBy, compileOf, bothWithin, codeMaskOf, compilingSaid, compiledSaid};
+ghost use Rattle.filters.specs.Answers.{lengthsOf, charactersOf, answered, compileOf, bothWithin, codeMaskOf, compilingSaid, compiledSaid};
 use identifiers::ExtendedId;
 use identifiers::Id;
 use identifiers::StandardId;
@@ -154,13 +156,6 @@ const PLACES: [u8; 122] = [
     0,
 ];
 
-// The two words so far, and the first place of a byte that is no pattern character (122 if there is none).
-pub struct Filling {
-    pub code: u32,
-    pub mask: u32,
-    pub bad: usize,
-}
-
 // A filter's row: where it starts in the table, and the widths of its fields.
 pub struct Row {
     pub start: usize,
@@ -171,18 +166,29 @@ pub struct Row {
     pub e: usize,
 }
 
-fn place(at: usize) -> u8
-    requires { ⌜ at < 122 ⌝ }
-    ensures { λ r. ⌜ (r ≡ getD places at 0) × (r < 32) ⌝ }
+fn known(character: u8) -> bool
+    ensures { λ r. ⌜ r ≡ isCharacter character ⌝ }
 {
-    PLACES[at]
+    if character == b'x' {
+        return true;
+    }
+    // `0` and `1` are 48 and 49
+    character / 2 == 24
 }
 
-fn bit_at(at: usize) -> u32
-    requires { ⌜ at < 122 ⌝ }
-    ensures { λ r. ⌜ r ≡ 1 * 2 ^ getD places at 0 ⌝ }
+// Each is looked at, whatever was found before, so that the compiler can look at many at once.
+fn all_known(characters: &[u8]) -> bool
+    ensures { λ r. ⌜ r ≡ allCharacters (now (characters .entry)) ⌝ }
 {
-    1 << (place(at) as u32)
+    let mut all = true;
+    let mut i = 0;
+    while i < characters.len() {
+        if !known(characters[i]) {
+            all = false;
+        }
+        i += 1;
+    }
+    all
 }
 
 fn earlier(first: usize, at: usize) -> usize
@@ -191,78 +197,95 @@ fn earlier(first: usize, at: usize) -> usize
     if first < at { first } else { at }
 }
 
-fn read(words: Filling, at: usize, character: u8) -> Filling
-    requires { ⌜ at < 122 ⌝ }
-    ensures { λ r. ⌜ (r .code ≡ bitOr (words .code) (one character * 2 ^ getD places at 0))
-        × (r .mask ≡ bitOr (words .mask) (care character * 2 ^ getD places at 0))
-        × (r .bad ≡ cond (isCharacter character) (words .bad) (min (words .bad) at)) ⌝ }
+fn judge(first: usize, at: usize, character: u8) -> usize
+    ensures { λ r. ⌜ r ≡ cond (isCharacter character) first (min first at) ⌝ }
 {
-    if character == b'x' {
-        return words;
+    if known(character) {
+        return first;
     }
-    let bit = bit_at(at);
-    let code = words.code;
-    let mask = words.mask | bit;
-    if character == b'1' {
-        return Filling {
-            code: code | bit,
-            mask,
-            bad: words.bad,
-        };
-    }
-    if character == b'0' {
-        return Filling {
-            code,
-            mask,
-            bad: words.bad,
-        };
-    }
-    Filling {
-        code,
-        mask,
-        bad: earlier(words.bad, at),
-    }
+    earlier(first, at)
 }
 
-// The words with one field's pattern, whose places start at `at`.
-fn fill(words: Filling, at: usize, pattern: &[u8]) -> Filling
-    requires { ⌜ at + length (now pattern) ≤ 122 ⌝ }
-    ensures { λ r. ⌜ (r .code ≡ wordFrom one (words .code) (drop at places) (now (pattern .entry)))
-        × (r .mask ≡ wordFrom care (words .mask) (drop at places) (now (pattern .entry)))
-        × (r .bad ≡ badFrom (words .bad) at (now (pattern .entry))) ⌝ }
+// The first place of a byte that is no pattern character (the length if there is none).
+fn first_bad(characters: &[u8]) -> usize
+    ensures { λ r. ⌜ r ≡ badFrom (length (now (characters .entry))) 0 (now (characters .entry)) ⌝ }
 {
-    let mut filled = words;
+    let mut first = characters.len();
+    let mut i = 0;
+    while i < characters.len() {
+        first = judge(first, i, characters[i]);
+        i += 1;
+    }
+    first
+}
+
+fn place(table: &[u8; 122], at: usize) -> u8
+    requires { ⌜ (at < 122) × (now table ≡ places) ⌝ }
+    ensures { λ r. ⌜ (r ≡ getD places at 0) × (r < 32) ⌝ }
+{
+    table[at]
+}
+
+// Both words in one, the mask's bits above the code's: `0` and 0xFFFF_FFD0 make 2^32.
+fn read(table: &[u8; 122], words: u64, at: usize, character: u8) -> u64
+    requires { ⌜ (at < 122) × (now table ≡ places) × (isCharacter character ≡ true) ⌝ }
+    ensures { λ r. ⌜ r ≡ bitOr words ((care character * 2 ^ 32 + one character) * 2 ^ getD places at 0) ⌝ }
+{
+    if character != b'x' {
+        let both = (character as u64) + 0xFFFF_FFD0;
+        return words | (both << (place(table, at) as u32));
+    }
+    words
+}
+
+// Both words of good characters. The table is read once, and not at each look.
+fn fill(start: usize, characters: &[u8]) -> u64
+    requires { ⌜ (start + length (now characters) ≤ 122) × (allCharacters (now characters) ≡ true) ⌝ }
+    ensures { λ r. ⌜ (r % 2 ^ 32 ≡ codeOf (drop start places) (now (characters .entry))) × (r / 2 ^ 32 ≡ maskOf (drop start places) (now (characters .entry))) ⌝ }
+{
+    let table = PLACES;
+    let mut words = 0;
+    let mut i = 0;
+    while i < characters.len() {
+        words = read(&table, words, start + i, characters[i]);
+        i += 1;
+    }
+    words
+}
+
+// The characters with one field's pattern from `at` on.
+fn with_field(characters: [u8; 32], at: usize, pattern: &[u8]) -> [u8; 32]
+    requires { ⌜ at + length (now pattern) ≤ 32 ⌝ }
+    ensures { λ r. ⌜ r ≡ paste characters at (now (pattern .entry)) (length (now (pattern .entry))) ⌝ }
+{
+    let mut filled = characters;
     let mut i = 0;
     while i < pattern.len() {
-        filled = read(filled, at + i, pattern[i]);
+        filled[at + i] = pattern[i];
         i += 1;
     }
     filled
 }
 
-fn fill_all(start: usize, a: &[u8], b: &[u8], c: &[u8], d: &[u8], e: &[u8]) -> Filling
-    requires { ⌜ start + length (now a) + length (now b) + length (now c) + length (now d) + length (now e) ≤ 122 ⌝ }
-    ensures { λ r. ⌜ (r .code ≡ wordFrom one 0 (drop start places) (joined (now (a .entry) ∷ now (b .entry) ∷ now (c .entry) ∷ now (d .entry) ∷ now (e .entry) ∷ [])))
-        × (r .mask ≡ wordFrom care 0 (drop start places) (joined (now (a .entry) ∷ now (b .entry) ∷ now (c .entry) ∷ now (d .entry) ∷ now (e .entry) ∷ [])))
-        × (r .bad ≡ badFrom 122 start (joined (now (a .entry) ∷ now (b .entry) ∷ now (c .entry) ∷ now (d .entry) ∷ now (e .entry) ∷ []))) ⌝ }
+// The fields one after the other, and `x` after them.
+fn join(a: &[u8], b: &[u8], c: &[u8], d: &[u8], e: &[u8]) -> [u8; 32]
+    requires { ⌜ length (now a) + length (now b) + length (now c) + length (now d) + length (now e) ≤ 32 ⌝ }
+    ensures { λ r. ⌜ r ≡ joined (now (a .entry) ∷ now (b .entry) ∷ now (c .entry) ∷ now (d .entry) ∷ now (e .entry) ∷ [])
+        ++ replicate (32 - length (joined (now (a .entry) ∷ now (b .entry) ∷ now (c .entry) ∷ now (d .entry) ∷ now (e .entry) ∷ []))) 120 ⌝ }
 {
-    let second = start + a.len();
+    let second = a.len();
     let third = second + b.len();
     let fourth = third + c.len();
     let fifth = fourth + d.len();
-    let none = Filling {
-        code: 0,
-        mask: 0,
-        bad: 122,
-    };
-    let one = fill(none, start, a);
-    let two = fill(one, second, b);
-    let three = fill(two, third, c);
-    let four = fill(three, fourth, d);
-    fill(four, fifth, e)
+    let none = [b'x'; 32];
+    let one = with_field(none, 0, a);
+    let two = with_field(one, second, b);
+    let three = with_field(two, third, c);
+    let four = with_field(three, fourth, d);
+    with_field(four, fifth, e)
 }
 
-fn low_byte(word: u32) -> u8
+fn low_byte(word: u64) -> u8
     ensures { λ r. ⌜ r ≡ word % 256 ⌝ }
 {
     (word % 256) as u8
@@ -271,16 +294,18 @@ fn low_byte(word: u32) -> u8
 fn to_registers(code: u32, mask: u32) -> [u8; 8]
     ensures { λ r. ⌜ r ≡ registersOf code mask ⌝ }
 {
-    let spared = !mask;
+    let high = (code as u64) * 0x1_0000_0000;
+    let low = mask as u64;
+    let word = high + 0xFFFF_FFFF - low;
     [
-        low_byte(code >> 24),
-        low_byte(code >> 16),
-        low_byte(code >> 8),
-        low_byte(code),
-        low_byte(spared >> 24),
-        low_byte(spared >> 16),
-        low_byte(spared >> 8),
-        low_byte(spared),
+        low_byte(word >> 56),
+        low_byte(word >> 48),
+        low_byte(word >> 40),
+        low_byte(word >> 32),
+        low_byte(word >> 24),
+        low_byte(word >> 16),
+        low_byte(word >> 8),
+        low_byte(word),
     ]
 }
 
@@ -323,22 +348,20 @@ fn judge_lengths(row: Row, a: usize, b: usize, c: usize, d: usize, e: usize) -> 
     Compiling::Made
 }
 
-fn compile(row: Row, a: &[u8], b: &[u8], c: &[u8], d: &[u8], e: &[u8]) -> Compiled
-    requires { ⌜ row .start + row .a + row .b + row .c + row .d + row .e ≤ 122 ⌝ }
-    ensures { λ r. ⌜ compiledSaid r ≡ compileBy (row .a ∷ row .b ∷ row .c ∷ row .d ∷ row .e ∷ []) (take (row .a + row .b + row .c + row .d + row .e) (drop (row .start) places))
-        (now (a .entry) ∷ now (b .entry) ∷ now (c .entry) ∷ now (d .entry) ∷ now (e .entry) ∷ []) ⌝ }
+// The answer for characters that stand in the places from `start` on.
+fn compile(start: usize, joined: &[u8; 32]) -> Compiled
+    requires { ⌜ start + 32 ≤ 122 ⌝ }
+    ensures { λ r. ⌜ compiledSaid r ≡ answered (charactersOf (now (joined .entry))) (registersOf (codeOf (drop start places) (now (joined .entry))) (maskOf (drop start places) (now (joined .entry)))) ⌝ }
 {
-    match judge_lengths(row, a.len(), b.len(), c.len(), d.len(), e.len()) {
-        Compiling::Refused(refusal) => refused(refusal),
-        Compiling::Made => {
-            let start = row.start;
-            let words = fill_all(start, a, b, c, d, e);
-            if words.bad < 122 {
-                return refused(Refusal::PatternByte(words.bad - start));
-            }
-            made(words.code, words.mask)
-        }
+    let characters = &joined[..];
+    if !all_known(characters) {
+        return refused(Refusal::PatternByte(first_bad(characters)));
     }
+    let words = fill(start, characters);
+    made(
+        (words % 0x1_0000_0000) as u32,
+        (words / 0x1_0000_0000) as u32,
+    )
 }
 
 fn one_bit(flag: bool) -> u32
@@ -438,7 +461,13 @@ impl SingleStandardFilter {
             d: 8,
             e: 0,
         };
-        compile(row, id, rtr, first, second, b"")
+        match judge_lengths(row, id.len(), rtr.len(), first.len(), second.len(), 0) {
+            Compiling::Refused(refusal) => refused(refusal),
+            Compiling::Made => {
+                let characters = join(id, rtr, first, second, b"");
+                compile(row.start, &characters)
+            }
+        }
     }
 
     pub fn new_from_code_mask(
@@ -476,7 +505,13 @@ impl SingleExtendedFilter {
             d: 0,
             e: 0,
         };
-        compile(row, id, rtr, b"", b"", b"")
+        match judge_lengths(row, id.len(), rtr.len(), 0, 0, 0) {
+            Compiling::Refused(refusal) => refused(refusal),
+            Compiling::Made => {
+                let characters = join(id, rtr, b"", b"", b"");
+                compile(row.start, &characters)
+            }
+        }
     }
 
     pub fn new_from_code_mask(
@@ -516,14 +551,20 @@ impl DualStandardFilter {
             d: 11,
             e: 1,
         };
-        compile(
+        match judge_lengths(
             row,
-            first_id,
-            first_rtr,
-            first_payload,
-            second_id,
-            second_rtr,
-        )
+            first_id.len(),
+            first_rtr.len(),
+            first_payload.len(),
+            second_id.len(),
+            second_rtr.len(),
+        ) {
+            Compiling::Refused(refusal) => refused(refusal),
+            Compiling::Made => {
+                let characters = join(first_id, first_rtr, first_payload, second_id, second_rtr);
+                compile(row.start, &characters)
+            }
+        }
     }
 
     pub fn new_from_code_mask(
@@ -579,7 +620,13 @@ impl DualExtendedFilter {
             d: 0,
             e: 0,
         };
-        compile(row, first, second, b"", b"", b"")
+        match judge_lengths(row, first.len(), second.len(), 0, 0, 0) {
+            Compiling::Refused(refusal) => refused(refusal),
+            Compiling::Made => {
+                let characters = join(first, second, b"", b"", b"");
+                compile(row.start, &characters)
+            }
+        }
     }
 
     pub fn new_from_code_mask(

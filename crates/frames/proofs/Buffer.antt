@@ -12,7 +12,8 @@ use Rattle.laws.specs.Said.{Said}
 use Rattle.laws.specs.Row.{pack, bytes}
 use Rattle.laws.proofs.Row.{unpack-length}
 use Rattle.identifiers.specs.Answers.{newOf}
-use Rattle.frames.specs.Buffer.{Frame, idRow, infoByte, bufferOf, idBytes, idBytesOf, dataStart, extendedOf, remoteOf, codeOf, idIn, dataLengthOf, dataOffsetOf}
+use Rattle.identifiers.specs.Limits.{limitOf}
+use Rattle.frames.specs.Buffer.{Frame, idRow, infoByte, bufferOf, idBytes, idBytesOf, dataStart, extendedOf, remoteOf, codeOf, idIn, idOf, dataLengthOf, dataOffsetOf}
 use Rattle.frames.specs.Reading.{withFormat, identifierIn, identifierOf}
 
 pub start-bound : (format : Bool) → dataStart format ≤ 5
@@ -89,3 +90,8 @@ pub identified : (b : List ℕ) (format : Bool) (raw : ℕ) (answer : Said ℕ) 
 unfolding identifierOf
 identified b format raw answer said same own =
     ap (withFormat format) (said ∙ ap (newOf format) same) ∙ ap (λ (f : Bool). identifierIn f b) (sym own)
+
+-- the number in the row of a format is the frame's, where the format is the frame's own
+pub numbered : (b : List ℕ) (format : Bool) (raw : ℕ) → extendedOf b ≡ format → (raw ≡ idIn format b) × (raw ≤ limitOf format)
+    → (raw ≡ idOf b) × (raw ≤ limitOf (extendedOf b))
+numbered b format raw own same = rw own same

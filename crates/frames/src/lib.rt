@@ -7,7 +7,7 @@ ghost use lib.ListN.{length};
 ghost use lib.Seq.{paste};
 ghost use Rattle.laws.specs.Row.{bit};
 ghost use Rattle.identifiers.specs.Limits.{limitOf, isExtended, rawOf};
-ghost use Rattle.frames.specs.Buffer.{dataStart, infoByte, bufferOf, extendedOf, remoteOf, ownOf, codeOf, idIn, dataLengthOf, dataOffsetOf, dataOf, usedOf};
+ghost use Rattle.frames.specs.Buffer.{dataStart, infoByte, bufferOf, extendedOf, remoteOf, ownOf, codeOf, idIn, idOf, dataLengthOf, dataOffsetOf, dataOf, usedOf};
 ghost use Rattle.frames.specs.Building.{invalidLength, nonCompliant, judgeOf, buildOf, buildingSaid, builtSaid, asked, askedData};
 ghost use Rattle.frames.specs.Reading.{identifierOf, identifiedSaid};
 use identifiers::ExtendedId;
@@ -252,14 +252,14 @@ fn wide(byte: u8) -> u32
 }
 
 fn standard_raw(frame: &[u8; 13]) -> u16
-    ensures { λ r. ⌜ r ≡ idIn false (now (frame .entry)) ⌝ }
+    ensures { λ r. ⌜ (r ≡ idIn false (now (frame .entry))) × (r ≤ limitOf false) ⌝ }
 {
     let word = wide(frame[1]) * 0x100 + wide(frame[2]);
     (word / 32) as u16
 }
 
 fn extended_raw(frame: &[u8; 13]) -> u32
-    ensures { λ r. ⌜ r ≡ idIn true (now (frame .entry)) ⌝ }
+    ensures { λ r. ⌜ (r ≡ idIn true (now (frame .entry))) × (r ≤ limitOf true) ⌝ }
 {
     let word = wide(frame[1]) * 0x100_0000
         + (wide(frame[2]) * 0x1_0000 + (wide(frame[3]) * 0x100 + wide(frame[4])));
@@ -279,6 +279,16 @@ pub fn identifier(frame: &[u8; 13]) -> Identified
         StandardMade::Made(id) => Identified::Read(Id::Standard(id)),
         StandardMade::Refused(refusal) => Identified::Refused(refusal),
     }
+}
+
+// The identifier's number, in the frame's own format.
+pub fn identifier_number(frame: &[u8; 13]) -> u32
+    ensures { λ r. ⌜ (r ≡ idOf (now (frame .entry))) × (r ≤ limitOf (extendedOf (now (frame .entry)))) ⌝ }
+{
+    if is_extended_format(frame) {
+        return extended_raw(frame);
+    }
+    standard_raw(frame) as u32
 }
 
 pub fn data(frame: &[u8; 13]) -> &[u8]

@@ -1,5 +1,5 @@
 -- Tests joined by "or" and "and", taken apart and put together. Assumes nothing.
-use mathlib.Core.Path.{_≡_, refl}
+use mathlib.Core.Path.{_≡_, refl, sym}
 use mathlib.Core.Bool.{Bool, true, false, _||_, _&&_, true≢false, false≢true}
 use lib.Dec.{T}
 
@@ -19,6 +19,10 @@ pub and-no : (a b : Bool) → (a ≡ true → b ≡ false) → (a && b) ≡ fals
 and-no false b h = refl
 and-no true b h = h refl
 
+pub both-true : (a b : Bool) → (a && b) ≡ true → (a ≡ true) × (b ≡ true)
+both-true true b e = (refl, e)
+both-true false b e = absurd (false≢true e)
+
 -- two tests that both pass
 pub both-left : (a b : Bool) → T (a && b) → T a
 both-left true b t = tt
@@ -37,3 +41,12 @@ and-yes a b e h = rw (e, h)
 pub and-last-no : (a b : Bool) → b ≡ false → (a && b) ≡ false
 and-last-no true b e = e
 and-last-no false b e = refl
+
+-- two tests that pass in the same cases are the same
+pub same-test : (a b : Bool) → (a ≡ true → b ≡ true) → (b ≡ true → a ≡ true) → a ≡ b
+same-test true b to from = sym (to refl)
+same-test false true to from = from refl
+same-test false false to from = refl
+
+pub is-true : (b : Bool) → T b → b ≡ true
+is-true true t = refl

@@ -4,3 +4,5 @@ pub mod Tabulate
 pub mod Bools
 pub mod Copy
 pub mod Bits
+pub mod Laid
+pub mod Said

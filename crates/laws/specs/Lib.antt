@@ -2,3 +2,4 @@ pub mod Said
 pub mod Row
 pub mod Tabulate
 pub mod Bits
+pub mod Laid

@@ -1,70 +1,61 @@
--- `filters::compile` meets its contract: lengths, then characters, then the words of the row. Assumes nothing.
-use mathlib.Core.Path.{sym, ap, _∙_}
+-- `filters::compile` meets its contract: all are pattern characters and both words are the row's, or the first that is none is named. Assumes nothing.
+use mathlib.Core.Path.{_≡_, sym, ap, ap₂, _∙_}
+use lib.ListN.{length}
+use native.Mathlib.Omega.{arith}
+use borrow.Author.Tests.{not-true, not-false}
 use borrow.Author.Needs.{needs}
-use Rattle.filters.specs.Answers.{compilingSaid}
-use Rattle.filters.proofs.Answers.{length-refused, fits, after-start, byte-refused, all-made}
+use Rattle.laws.specs.Said.{refuses}
+use Rattle.filters.specs.Registers.{registersOf}
+use Rattle.filters.proofs.Joined.{bad-said, good-said, first-is}
+use Rattle.filters.proofs.Answers.{answered-refused, answered-made}
 use Rattle.filters.proofs.compile.Statement.{statement}
 use Rattle.filters.proofs.compile.Tie as tie
 
-judge-lengths-requires : tie.Need-judge-lengths-requires
-judge-lengths-requires c κs = search needs
+all-known-requires : tie.Need-all-known-requires
+all-known-requires c κs = search needs
 
-enum-known-refusal : tie.Need-enum-known-refusal
-enum-known-refusal c = search needs
+first-bad-requires : tie.Need-first-bad-requires
+first-bad-requires c κs = search needs
 
 refused-requires : tie.Need-refused-requires
 refused-requires c κs = search needs
 
-enum-told : tie.Need-enum-told
-enum-told c = search needs
-
-fill-all-requires : tie.Need-fill-all-requires
-fill-all-requires c κs =
-    let g = c .before .before .before .before .before .before .before .before .args in
-    let made = sym (c .before .before .judge-lengths .ensures) ∙ ap compilingSaid (c .enum-told .given .1) in
-    fits (g .row .start) (g .row .a) (g .row .b) (g .row .c) (g .row .d) (g .row .e) (g .a .now) (g .b .now) (g .c .now) (g .d .now) (g .e .now) (c .before .before .before .before .before .before .before .before .pre) made
-
-sub-t18 : tie.Need-sub-t18
-sub-t18 c =
-    let g = c .before .before .before .before .before .before .before .before .before .before .before .before .args in
-    let made = sym (c .before .before .before .before .before .before .judge-lengths .ensures) ∙ ap compilingSaid (c .before .before .before .before .enum-told .given .1) in
-    after-start (g .row .start) (g .row .a) (g .row .b) (g .row .c) (g .row .d) (g .row .e) (g .a .now) (g .b .now) (g .c .now) (g .d .now) (g .e .now) (c .before .before .before .before .before .before .before .before .before .before .before .before .pre) made _ (c .before .before .before .fill-all .ensures .2) (c .before .if1 .taken)
-
-refused-requires-2 : tie.Need-refused-requires-2
-refused-requires-2 c κs = search needs
-
 returns : tie.Need-returns
 returns c =
-    let g = c .before .before .before .before .before .before .before .before .before .before .before .before .before .args in
-    let made = sym (c .before .before .before .before .before .before .before .judge-lengths .ensures) ∙ ap compilingSaid (c .before .before .before .before .before .enum-told .given .1) in
-    c .refused2 .ensures ∙ byte-refused (g .row .start) (g .row .a) (g .row .b) (g .row .c) (g .row .d) (g .row .e) (g .a .now) (g .b .now) (g .c .now) (g .d .now) (g .e .now) (c .before .before .before .before .before .before .before .before .before .before .before .before .before .pre) made _ (c .before .before .before .before .fill-all .ensures .2) _ (c .before .before .if1 .taken)
+    let s = c .before .before .before .before .before .args .joined .now in
+    let none = sym (c .before .before .before .all-known .ensures) ∙ not-true _ (c .before .before .if1 .taken) in
+    c .refused .ensures ∙ answered-refused _ _ 5 _ (bad-said s none ∙ ap (refuses 5) (sym (c .before .first-bad .ensures ∙ first-is s none)))
+
+fill-requires : tie.Need-fill-requires
+fill-requires c κs =
+    let long : length (c .before .before .before .args .joined .now) ≡ 32 = search needs in
+    (omega (arith, c .before .before .before .pre), sym (c .before .all-known .ensures) ∙ not-false _ (c .if1 .left))
+
+cast-made : tie.Need-cast-made
+cast-made c = search needs
+
+cast-made-2 : tie.Need-cast-made-2
+cast-made-2 c = search needs
 
 made-requires : tie.Need-made-requires
 made-requires c κs = search needs
 
 returns-2 : tie.Need-returns-2
 returns-2 c =
-    let g = c .before .before .before .before .before .before .before .before .before .before .args in
-    c .refused .ensures ∙ length-refused (g .row .start) (g .row .a) (g .row .b) (g .row .c) (g .row .d) (g .row .e) (g .a .now) (g .b .now) (g .c .now) (g .d .now) (g .e .now) _ _ _ (sym (c .before .before .before .before .judge-lengths .ensures) ∙ ap compilingSaid (c .before .before .refusal .given .1))
-
-returns-3 : tie.Need-returns-3
-returns-3 c =
-    let g = c .before .before .before .before .before .before .before .before .before .before .before .before .args in
-    let lengths = sym (c .before .before .before .before .before .before .judge-lengths .ensures) ∙ ap compilingSaid (c .before .before .before .before .enum-told .given .1) in
-    c .made .ensures ∙ all-made (g .row .start) (g .row .a) (g .row .b) (g .row .c) (g .row .d) (g .row .e) (g .a .now) (g .b .now) (g .c .now) (g .d .now) (g .e .now) (c .before .before .before .before .before .before .before .before .before .before .before .before .pre) lengths _ (c .before .before .before .fill-all .ensures .2) (c .before .if1 .left) _ _ (c .before .before .before .fill-all .ensures .0) (c .before .before .before .fill-all .ensures .1)
+    let s = c .before .before .before .before .before .args .joined .now in
+    let all = sym (c .before .before .before .all-known .ensures) ∙ not-false _ (c .before .before .if1 .left) in
+    c .made .ensures ∙ answered-made _ _ _ (good-said s all) (ap₂ registersOf (c .before .fill .ensures .0) (c .before .fill .ensures .1))
 
 pub compile-spec : {M : Type 1} → statement M
 compile-spec =
     tie.close
     (tie.spec
-    judge-lengths-requires
-    enum-known-refusal
+    all-known-requires
+    first-bad-requires
     refused-requires
-    enum-told
-    fill-all-requires
-    sub-t18
-    refused-requires-2
     returns
+    fill-requires
+    cast-made
+    cast-made-2
     made-requires
-    returns-2
-    returns-3)
+    returns-2)

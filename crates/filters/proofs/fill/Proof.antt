@@ -1,36 +1,40 @@
--- `filters::fill` meets its contract: what is read so far and what is left to read make the whole. Assumes nothing.
+-- `filters::fill` meets its contract: what is read so far and what is left to read make both words, one above the other. Assumes nothing.
 use Prim.Native.Nat.{_≤_, _<_, _-_, _+_}
-use mathlib.Core.Path.{_≡_}
+use mathlib.Core.Path.{_≡_, refl}
 use lib.ListN.{length, drop}
 use native.Mathlib.Nat.{add-zero}
 use native.Mathlib.Omega.{arith}
-use Rattle.filters.specs.Table.{places}
-use Rattle.filters.specs.Words.{one, care, wordFrom, badFrom}
-use Rattle.filters.proofs.Table.{places-long}
-use Rattle.filters.proofs.Words.{word-end, word-turn, bad-end, bad-turn}
+use Rattle.laws.proofs.Bools.{is-true}
+use Rattle.filters.specs.Table.{fieldsOf, places}
+use Rattle.filters.specs.Words.{wordFrom}
+use Rattle.filters.proofs.Table.{places-long, places-within}
+use Rattle.filters.proofs.Words.{word-end, word-turn}
+use Rattle.filters.proofs.Agree.{character-at}
+use Rattle.filters.proofs.Both.{both, parts, within-drop}
 use Rattle.filters.proofs.fill.Statement.{statement}
 use Rattle.filters.proofs.fill.Tie as tie
 
 abbrev Inv-loop : tie.InvT-loop
-Inv-loop at pattern filled₀ i₀ filled i = (i ≤ length pattern)
-    × (wordFrom one (filled .code) (drop (at + i) places) (drop i pattern) ≡ wordFrom one (filled₀ .code) (drop at places) pattern)
-    × (wordFrom care (filled .mask) (drop (at + i) places) (drop i pattern) ≡ wordFrom care (filled₀ .mask) (drop at places) pattern)
-    × (badFrom (filled .bad) (at + i) (drop i pattern) ≡ badFrom (filled₀ .bad) at pattern)
+Inv-loop start characters table words₀ i₀ words i = (i ≤ length characters)
+    × (wordFrom both words (drop (start + i) places) (drop i characters) ≡ wordFrom both 0 (drop start places) characters)
 
 abbrev μ-loop : tie.MeasureT-loop
-μ-loop at pattern filled₀ i₀ filled i = length pattern - i
+μ-loop start characters table words₀ i₀ words i = length characters - i
 
 loop-holds : tie.Need-loop-holds Inv-loop μ-loop
-loop-holds c = (omega arith, rw add-zero, rw add-zero, rw add-zero)
+loop-holds c = (omega arith, rw add-zero)
 
 add-read : tie.Need-add-read Inv-loop μ-loop
-add-read c = omega arith
+add-read c = omega (arith, c .before .before .before .before .pre .0)
 
 shared-slice-read-read : tie.Need-shared-slice-read-read Inv-loop μ-loop
 shared-slice-read-read c = omega arith
 
 read-requires : tie.Need-read-requires Inv-loop μ-loop
-read-requires c κs = omega arith
+unfolding places fieldsOf
+read-requires c κs =
+    let good = character-at (c .before .before .before .before .before .args .characters .now) (rw (c .before .before .before .before .before .pre .1) tt) (c .before .before .before .loop .i) (omega arith) in
+    (omega (arith, c .before .before .before .before .before .pre .0), refl, is-true _ good)
 
 add-i : tie.Need-add-i Inv-loop μ-loop
 add-i c = omega arith
@@ -40,21 +44,14 @@ loop-less c = omega arith
 
 loop-again : tie.Need-loop-again Inv-loop μ-loop
 loop-again c =
-    let s = c .before .before .before .before .before .args .pattern .now in
-    let room : c .before .before .before .before .before .args .at + c .before .before .before .loop .i < length places = rw places-long (omega arith) in (
-      omega arith,
-      word-turn one places s (c .before .before .before .before .before .args .at) (c .before .before .before .loop .i) _ _ _ (c .before .before .loop-test .taken) room (c .read .ensures .0) (c .before .before .before .loop .inv .1),
-      word-turn care places s (c .before .before .before .before .before .args .at) (c .before .before .before .loop .i) _ _ _ (c .before .before .loop-test .taken) room (c .read .ensures .1) (c .before .before .before .loop .inv .2),
-      bad-turn s (c .before .before .before .before .before .args .at) (c .before .before .before .loop .i) _ _ _ (c .before .before .loop-test .taken) (c .read .ensures .2) (c .before .before .before .loop .inv .3),
-    )
+    let s = c .before .before .before .before .before .before .args .characters .now in
+    let room : c .before .before .before .before .before .before .args .start + c .before .before .before .before .loop .i < length places = rw places-long (omega (arith, c .before .before .before .before .before .before .pre .0)) in
+    (omega arith, word-turn both places s (c .before .before .before .before .before .before .args .start) (c .before .before .before .before .loop .i) _ _ _ (c .before .before .before .loop-test .taken) room (c .read .ensures) (c .before .before .before .before .loop .inv .1))
 
 returns : tie.Need-returns Inv-loop μ-loop
 returns c =
-    let s = c .before .before .before .args .pattern .now in (
-      word-end one _ _ _ s (c .before .loop .i) (omega arith) (omega arith) (c .before .loop .inv .1),
-      word-end care _ _ _ s (c .before .loop .i) (omega arith) (omega arith) (c .before .loop .inv .2),
-      bad-end _ _ _ s (c .before .loop .i) (omega arith) (omega arith) (c .before .loop .inv .3),
-    )
+    let s = c .before .before .before .args .characters .now in
+    parts (c .before .loop .words) (drop (c .before .before .before .args .start) places) s (within-drop (c .before .before .before .args .start) places places-within) (word-end both _ _ _ s (c .before .loop .i) (omega arith) (omega arith) (c .before .loop .inv .1))
 
 pub fill-spec : {M : Type 1} → statement M
 fill-spec =

@@ -1,17 +1,18 @@
--- `filters::place` meets its contract: the code's table is the definition's, entry by entry. Assumes nothing.
-use mathlib.Core.Path.{refl}
+-- `filters::place` meets its contract: the lent table is the definition's, and each of its entries is below 32. Assumes nothing.
 use borrow.Author.Needs.{needs}
-use Rattle.filters.specs.Table.{fieldsOf, places}
-use Rattle.filters.proofs.Table.{within-at, places-within}
+use Rattle.filters.specs.Table.{places}
+use Rattle.filters.proofs.Table.{within-at, places-within, places-long}
 use Rattle.filters.proofs.place.Statement.{statement}
 use Rattle.filters.proofs.place.Tie as tie
 
-array-read-result : tie.Need-array-read-result
-array-read-result c = search needs
+element-copy-out-result : tie.Need-element-copy-out-result
+element-copy-out-result c = search needs
 
 returns : tie.Need-returns
-unfolding places fieldsOf
-returns c = (refl, within-at places places-within (c .args .at) (search needs))
+returns c =
+    let at = c .before .args .at in
+    let same = c .before .pre .1 in
+    (rw same, rw same (within-at places places-within at (rw places-long (c .before .pre .0))))
 
 pub place-spec : {M : Type 1} → statement M
-place-spec = tie.close (tie.spec array-read-result returns)
+place-spec = tie.close (tie.spec element-copy-out-result returns)

@@ -47,7 +47,7 @@ add-word-3 : tie.Need-add-word-3
 add-word-3 c = search needs
 
 returns : tie.Need-returns
-returns c = omega (arith, c .before .before .before .before .before .before .wide .ensures .0, c .before .before .before .before .wide2 .ensures .0, c .before .before .wide3 .ensures .0, c .wide4 .ensures .0)
+returns c = (omega (arith, c .before .before .before .before .before .before .wide .ensures .0, c .before .before .before .before .wide2 .ensures .0, c .before .before .wide3 .ensures .0, c .wide4 .ensures .0), omega (arith, c .before .before .before .before .before .before .wide .ensures .1, c .before .before .before .before .wide2 .ensures .1, c .before .before .wide3 .ensures .1, c .wide4 .ensures .1))
 
 pub extended-raw-spec : {M : Type 1} → statement M
 extended-raw-spec =

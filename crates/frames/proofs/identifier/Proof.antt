@@ -23,10 +23,10 @@ enum-known-refusal : tie.Need-enum-known-refusal
 enum-known-refusal c = search needs
 
 returns : tie.Need-returns
-returns c = identified _ true _ _ (sym (ap extendedSaid (c .before .id .given .1)) ∙ c .before .before .before .new .ensures) (c .before .before .before .before .extended-raw .ensures) (sym (c .before .before .before .before .before .before .is-extended-format .ensures) ∙ c .before .before .before .before .before .if1 .taken)
+returns c = identified _ true _ _ (sym (ap extendedSaid (c .before .id .given .1)) ∙ c .before .before .before .new .ensures) (c .before .before .before .before .extended-raw .ensures .0) (sym (c .before .before .before .before .before .before .is-extended-format .ensures) ∙ c .before .before .before .before .before .if1 .taken)
 
 returns-2 : tie.Need-returns-2
-returns-2 c = identified _ true _ _ (sym (ap extendedSaid (c .before .refusal .given .1)) ∙ c .before .before .before .new .ensures) (c .before .before .before .before .extended-raw .ensures) (sym (c .before .before .before .before .before .before .is-extended-format .ensures) ∙ c .before .before .before .before .before .if1 .taken)
+returns-2 c = identified _ true _ _ (sym (ap extendedSaid (c .before .refusal .given .1)) ∙ c .before .before .before .new .ensures) (c .before .before .before .before .extended-raw .ensures .0) (sym (c .before .before .before .before .before .before .is-extended-format .ensures) ∙ c .before .before .before .before .before .if1 .taken)
 
 standard-raw-requires : tie.Need-standard-raw-requires
 standard-raw-requires c κs = search needs
@@ -41,10 +41,10 @@ enum-known-refusal-2 : tie.Need-enum-known-refusal-2
 enum-known-refusal-2 c = search needs
 
 returns-3 : tie.Need-returns-3
-returns-3 c = identified _ false _ _ (sym (ap standardSaid (c .before .id2 .given .1)) ∙ c .before .before .before .new2 .ensures) (c .before .before .before .before .standard-raw .ensures) (sym (c .before .before .before .before .before .before .is-extended-format .ensures) ∙ c .before .before .before .before .before .if1 .left)
+returns-3 c = identified _ false _ _ (sym (ap standardSaid (c .before .id2 .given .1)) ∙ c .before .before .before .new2 .ensures) (c .before .before .before .before .standard-raw .ensures .0) (sym (c .before .before .before .before .before .before .is-extended-format .ensures) ∙ c .before .before .before .before .before .if1 .left)
 
 returns-4 : tie.Need-returns-4
-returns-4 c = identified _ false _ _ (sym (ap standardSaid (c .before .refusal2 .given .1)) ∙ c .before .before .before .new2 .ensures) (c .before .before .before .before .standard-raw .ensures) (sym (c .before .before .before .before .before .before .is-extended-format .ensures) ∙ c .before .before .before .before .before .if1 .left)
+returns-4 c = identified _ false _ _ (sym (ap standardSaid (c .before .refusal2 .given .1)) ∙ c .before .before .before .new2 .ensures) (c .before .before .before .before .standard-raw .ensures .0) (sym (c .before .before .before .before .before .before .is-extended-format .ensures) ∙ c .before .before .before .before .before .if1 .left)
 
 pub identifier-spec : {M : Type 1} → statement M
 identifier-spec =

@@ -26,7 +26,7 @@ cast-result : tie.Need-cast-result
 cast-result c = search needs
 
 returns : tie.Need-returns
-returns c = omega (arith, c .before .before .wide .ensures .0, c .wide2 .ensures .0)
+returns c = (omega (arith, c .before .before .wide .ensures .0, c .wide2 .ensures .0), omega (arith, c .before .before .wide .ensures .1, c .wide2 .ensures .1))
 
 pub standard-raw-spec : {M : Type 1} → statement M
 standard-raw-spec =
