@@ -1,0 +1,5 @@
+pub mod Named
+pub mod Positions
+pub mod EndToEnd
+pub mod Only
+pub mod Rows

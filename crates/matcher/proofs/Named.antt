@@ -1,0 +1,138 @@
+-- One word compare is the agreement at each position that it names: a bit of the difference is left exactly where a named position is compared and the
+-- code has not the word's bit. Assumes nothing.
+use Prim.Native.Nat.{ℕ, zero, suc, _+_, _-_, _^_, _<_, min}
+use mathlib.Core.Path.{_≡_, refl, sym, ap, ap₂, _∙_}
+use mathlib.Core.Logic.{_≢_, inl, inr}
+use mathlib.Core.Bool.{Bool, true, false, cond, _&&_}
+use mathlib.Core.List.{List, [], _∷_, map}
+use lib.Bits.{bitAnd, bitXor, differ, and-lt, xor-lt}
+use lib.Dec.{T, eqb}
+use lib.ListN.{length, getD, replicate, length-replicate, getD-replicate}
+use native.Mathlib.Nat.{not-suc-le-zero, le-of-suc-le-suc}
+use native.Mathlib.Omega.{arith}
+use borrow.Author.Tests.{eq-eqb, ne-eqb, eqb-true, eqb-false}
+use Rattle.laws.specs.Bits.{bitAt}
+use Rattle.laws.proofs.Bits.{bit-lt, bit-zero, bit-and, bit-xor, bit-not, bit-ext, differ-zero, differ-same}
+use Rattle.laws.proofs.Bools.{same-test, and-yes}
+use Rattle.filters.specs.Words.{one}
+use Rattle.filters.specs.Registers.{codeIn, maskIn}
+use Rattle.filters.specs.Meaning.{distinct, within, characterIn, charactersIn}
+use Rattle.filters.proofs.Characters.{one-is, one-lt}
+use Rattle.filters.proofs.Table.{within-at}
+use Rattle.filters.proofs.Agree.{off, word-lt, where-is, code-at}
+use Rattle.matcher.specs.Match.{fits, allFit}
+use Rattle.matcher.specs.Words.{onesAt, missOf}
+
+-- the character that a word shows at a position
+abbrev pub shownAt : ℕ → ℕ → ℕ
+shownAt w p = 48 + bitAt w p
+
+-- ---- the word of ones at a row's positions
+module _ (ps : List ℕ) (apart : T (distinct ps)) where
+  ones-in : (i : ℕ) → i < length ps → bitAt (onesAt ps) (getD ps i 0) ≡ 1
+  unfolding onesAt
+  ones-in i h =
+      let ones : List ℕ = replicate (length ps) 49 in
+      let long : length ones ≡ length ps = length-replicate (length ps) 49 in
+      code-at ps ones apart long i (omega arith) ∙ one-is _ (getD-replicate (length ps) i 49 0 h)
+
+ones-out : (ps : List ℕ) (k : ℕ) → ((i : ℕ) → i < length ps → k ≢ getD ps i 0) → bitAt (onesAt ps) k ≡ 0
+unfolding onesAt
+ones-out ps k none = off one one-lt 0 ps (replicate (length ps) 49) k none ∙ bit-zero k
+
+ones-lt : (ps : List ℕ) → T (within ps) → onesAt ps < 2 ^ 32
+unfolding onesAt
+ones-lt ps inside = word-lt one one-lt 0 ps (replicate (length ps) 49) inside (omega arith)
+
+first-test : (a b : Bool) → (a && b) ≡ true → a ≡ true
+first-test true b e = refl
+first-test false b e = e
+
+last-test : (a b : Bool) → (a && b) ≡ true → b ≡ true
+last-test true b e = e
+last-test false b e = absurd (let z : _≡_ {A = ℕ} 0 1 = ap (λ (x : Bool). cond x 1 0) e in omega arith)
+
+module _ (registers : List ℕ) (w : ℕ) where
+  abbrev code : ℕ
+  code = codeIn registers
+
+  abbrev mask : ℕ
+  mask = maskIn registers
+
+  abbrev ok : ℕ → Bool
+  ok k = fits (characterIn registers k) (shownAt w k)
+
+  -- all places of a row agree exactly if each does
+  all-at : (ps : List ℕ) → allFit (charactersIn registers ps) (map (shownAt w) ps) ≡ true → (i : ℕ) → i < length ps → ok (getD ps i 0) ≡ true
+  unfolding allFit
+  all-at [] e i h = absurd (not-suc-le-zero h)
+  all-at (p ∷ ps) e zero h = first-test (ok p) (allFit (charactersIn registers ps) (map (shownAt w) ps)) e
+  all-at (p ∷ ps) e (suc i) h = all-at ps (last-test (ok p) (allFit (charactersIn registers ps) (map (shownAt w) ps)) e) i (le-of-suc-le-suc h)
+
+  at-all : (ps : List ℕ) → ((i : ℕ) → i < length ps → ok (getD ps i 0) ≡ true) → allFit (charactersIn registers ps) (map (shownAt w) ps) ≡ true
+  unfolding allFit
+  at-all [] each = refl
+  at-all (p ∷ ps) each = and-yes (ok p) (allFit (charactersIn registers ps) (map (shownAt w) ps)) (each 0 (omega arith)) (at-all ps (λ i h. each (suc i) (omega arith)))
+
+  -- a place agrees exactly if nothing is left of the difference there
+  abbrev gap : ℕ → ℕ
+  gap k = min (differ (bitAt code k) (bitAt w k)) (1 - bitAt mask k)
+
+  ok-gap : (k : ℕ) → ok k ≡ true → gap k ≡ 0
+  ok-gap k e = by (eqb (bitAt mask k) 1) refl e
+    where
+      by : (t : Bool) → eqb (bitAt mask k) 1 ≡ t → fits (cond t 120 (48 + bitAt code k)) (shownAt w k) ≡ true → gap k ≡ 0
+      by true q e = omega (arith, eqb-true (bitAt mask k) 1 q)
+      by false q e =
+          let other : (48 + bitAt code k ≡ 120 → ⊥) = λ z. omega (arith, bit-lt code k) in
+          let same : 48 + bitAt code k ≡ 48 + bitAt w k = eqb-true (48 + bitAt code k) (48 + bitAt w k) (rw (ne-eqb (48 + bitAt code k) 120 other) at e) in
+          let bits : bitAt code k ≡ bitAt w k = omega arith in
+          let none : differ (bitAt code k) (bitAt w k) ≡ 0 = ap (λ (x : ℕ). differ x (bitAt w k)) bits ∙ differ-same (bitAt w k) in
+          omega arith
+
+  gap-ok : (k : ℕ) → gap k ≡ 0 → ok k ≡ true
+  gap-ok k g = by (eqb (bitAt mask k) 1) refl
+    where
+      by : (t : Bool) → eqb (bitAt mask k) 1 ≡ t → fits (cond t 120 (48 + bitAt code k)) (shownAt w k) ≡ true
+      by true q = refl
+      by false q =
+          let other : (48 + bitAt code k ≡ 120 → ⊥) = λ z. omega (arith, bit-lt code k) in
+          let bits : bitAt code k ≡ bitAt w k = differ-zero (bitAt code k) (bitAt w k) (omega (arith, eqb-false (bitAt mask k) 1 q, bit-lt mask k)) in
+          rw (ne-eqb (48 + bitAt code k) 120 other) (eq-eqb (48 + bitAt code k) (48 + bitAt w k) (ap (λ (x : ℕ). 48 + x) bits))
+
+  module _ (code-small : code < 2 ^ 32) (mask-small : mask < 2 ^ 32) (word-small : w < 2 ^ 32) where
+    left-at : (named k : ℕ) → k < 32 → bitAt (missOf code mask w named) k ≡ min (gap k) (bitAt named k)
+    unfolding missOf
+    left-at named k h =
+        bit-and (bitAnd (bitXor code w) (2 ^ 32 - 1 - mask)) named k
+        ∙ ap (λ (x : ℕ). min x (bitAt named k)) (bit-and (bitXor code w) (2 ^ 32 - 1 - mask) k ∙ ap₂ (λ (x y : ℕ). min x y) (bit-xor code w k) (bit-not k 32 mask h mask-small))
+
+    miss-lt : (named : ℕ) → named < 2 ^ 32 → missOf code mask w named < 2 ^ 32
+    unfolding missOf
+    miss-lt named h =
+        and-lt 32 (bitAnd (bitXor code w) (2 ^ 32 - 1 - mask)) named (and-lt 32 (bitXor code w) (2 ^ 32 - 1 - mask) (xor-lt 32 code w code-small word-small) (omega arith)) h
+
+    -- the law
+    pub miss-is : (ps : List ℕ) → T (distinct ps) → T (within ps) → eqb (missOf code mask w (onesAt ps)) 0 ≡ allFit (charactersIn registers ps) (map (shownAt w) ps)
+    miss-is ps apart inside = same-test _ _ to from
+      where
+        to : eqb (missOf code mask w (onesAt ps)) 0 ≡ true → allFit (charactersIn registers ps) (map (shownAt w) ps) ≡ true
+        to e = at-all ps each
+          where
+            each : (i : ℕ) → i < length ps → ok (getD ps i 0) ≡ true
+            each i h =
+                let k = getD ps i 0 in
+                let none : min (gap (getD ps i 0)) (bitAt (onesAt ps) (getD ps i 0)) ≡ 0 =
+                sym (left-at (onesAt ps) (getD ps i 0) (within-at ps inside i h)) ∙ ap (λ (x : ℕ). bitAt x (getD ps i 0)) (eqb-true (missOf code mask w (onesAt ps)) 0 e) ∙ bit-zero (getD ps i 0) in
+                gap-ok (getD ps i 0) (omega (arith, ones-in ps apart i h))
+
+        from : allFit (charactersIn registers ps) (map (shownAt w) ps) ≡ true → eqb (missOf code mask w (onesAt ps)) 0 ≡ true
+        from e =
+            eq-eqb (missOf code mask w (onesAt ps)) 0
+            (bit-ext 32 (missOf code mask w (onesAt ps)) 0 (miss-lt (onesAt ps) (ones-lt ps inside)) (omega arith) (λ k h. left-at (onesAt ps) k h ∙ nothing k ∙ sym (bit-zero k)))
+          where
+            nothing : (k : ℕ) → min (gap k) (bitAt (onesAt ps) k) ≡ 0
+            nothing k = elim (where-is k ps) [ inl (i, h, p) ↦ found i h p | inr none ↦ omega (arith, ones-out ps k none) ]
+              where
+                found : (i : ℕ) → i < length ps → k ≡ getD ps i 0 → min (gap k) (bitAt (onesAt ps) k) ≡ 0
+                found i h p = let g : gap k ≡ 0 = ap gap p ∙ ok-gap (getD ps i 0) (all-at ps e i h) in omega arith
