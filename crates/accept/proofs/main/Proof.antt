@@ -1,0 +1,60 @@
+-- `accept::main` is safe: what is reported on is a part of the buffer. Assumes nothing.
+use mathlib.Core.Path.{sym}
+use native.Mathlib.Omega.{arith}
+use lib.Seq.{length-take-le}
+use borrow.Author.Needs.{needs}
+use Rattle.accept.proofs.main.Statement.{statement}
+use Rattle.accept.proofs.main.Tie as tie
+
+slice-aggregate-read-input : tie.Need-slice-aggregate-read-input
+slice-aggregate-read-input c = search needs
+
+read-input-requires : tie.Need-read-input-requires
+read-input-requires c κs = search needs
+
+enum-known-length : tie.Need-enum-known-length
+enum-known-length c = search needs
+
+array-share-prefix-file : tie.Need-array-share-prefix-file
+array-share-prefix-file c = search needs
+
+slice-aggregate-print-report : tie.Need-slice-aggregate-print-report
+slice-aggregate-print-report c = sym (length-take-le (c .before .before .before .length .given .0 .0) (c .before .before .before .before .before .before .read-input .last .0) (omega (arith, c .before .before .before .before .before .before .read-input .kept .0, c .before .if1 .taken)))
+
+print-report-requires : tie.Need-print-report-requires
+print-report-requires c κs = search needs
+
+enum-told : tie.Need-enum-told
+enum-told c = search needs
+
+slice-aggregate-write-all : tie.Need-slice-aggregate-write-all
+slice-aggregate-write-all c = search needs
+
+write-all-requires : tie.Need-write-all-requires
+write-all-requires c κs = search needs
+
+returns : tie.Need-returns
+returns c = search needs
+
+returns-2 : tie.Need-returns-2
+returns-2 c = search needs
+
+returns-3 : tie.Need-returns-3
+returns-3 c = search needs
+
+pub main-spec : {M : Type 1} → statement M
+main-spec =
+    tie.close
+    (tie.spec
+    slice-aggregate-read-input
+    read-input-requires
+    enum-known-length
+    array-share-prefix-file
+    slice-aggregate-print-report
+    print-report-requires
+    enum-told
+    slice-aggregate-write-all
+    write-all-requires
+    returns
+    returns-2
+    returns-3)

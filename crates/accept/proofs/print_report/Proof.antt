@@ -1,0 +1,60 @@
+-- `accept::print_report` is safe: the text that is written is a part of the buffer. Assumes nothing.
+use mathlib.Core.Path.{sym}
+use native.Mathlib.Omega.{arith}
+use lib.Seq.{length-take-le}
+use borrow.Author.Needs.{needs}
+use Rattle.accept.proofs.print_report.Statement.{statement}
+use Rattle.accept.proofs.print_report.Tie as tie
+
+slice-aggregate-report : tie.Need-slice-aggregate-report
+slice-aggregate-report c = search needs
+
+report-requires : tie.Need-report-requires
+report-requires c κs = search needs
+
+enum-known-length : tie.Need-enum-known-length
+enum-known-length c = search needs
+
+array-share-prefix-text : tie.Need-array-share-prefix-text
+array-share-prefix-text c = search needs
+
+slice-aggregate-write-all : tie.Need-slice-aggregate-write-all
+slice-aggregate-write-all c = sym (length-take-le (c .before .before .before .length .given .0 .0) (c .before .before .before .before .before .before .report .last .1 .0) (omega (arith, c .before .before .before .before .before .before .report .kept .1 .0, c .before .if1 .taken)))
+
+write-all-requires : tie.Need-write-all-requires
+write-all-requires c κs = search needs
+
+enum-told : tie.Need-enum-told
+enum-told c = search needs
+
+slice-aggregate-write-all-2 : tie.Need-slice-aggregate-write-all-2
+slice-aggregate-write-all-2 c = search needs
+
+write-all-requires-2 : tie.Need-write-all-requires-2
+write-all-requires-2 c κs = search needs
+
+returns : tie.Need-returns
+returns c = search needs
+
+returns-2 : tie.Need-returns-2
+returns-2 c = search needs
+
+returns-3 : tie.Need-returns-3
+returns-3 c = search needs
+
+pub print-report-spec : {M : Type 1} → statement M
+print-report-spec =
+    tie.close
+    (tie.spec
+    slice-aggregate-report
+    report-requires
+    enum-known-length
+    array-share-prefix-text
+    slice-aggregate-write-all
+    write-all-requires
+    enum-told
+    slice-aggregate-write-all-2
+    write-all-requires-2
+    returns
+    returns-2
+    returns-3)

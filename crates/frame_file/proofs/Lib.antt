@@ -1,0 +1,6 @@
+pub mod Reader
+pub mod Writer
+pub mod Format
+pub mod Cap
+pub mod Only
+pub mod RoundTrip

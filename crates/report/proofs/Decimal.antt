@@ -1,0 +1,66 @@
+-- A number's digits: the last one behind those of its tenth, in the definition and in an output. Assumes nothing.
+use Prim.Native.Nat.{ℕ, zero, suc, _+_, _/_, _%_, _≤_, _<_}
+use mathlib.Core.Path.{_≡_, refl, sym, ap, _∙_}
+use mathlib.Core.Bool.{Bool, true, false, cond}
+use mathlib.Core.List.{List, [], _∷_, _++_}
+use lib.Dec.{ltb}
+use lib.ListN.{length, set, length-append}
+use native.Mathlib.Omega.{arith}
+use native.Mathlib.Decide.{decLt}
+use borrow.Author.Tests.{lt-ltb, le-ltb, ltb-false}
+use Rattle.laws.specs.Laid.{laid}
+use Rattle.laws.proofs.Laid.{set-laid, set-then}
+use Rattle.report.specs.Text.{digitsOf, decimal}
+
+digitsOf-same : (k j n : ℕ) → n < k → n < j → digitsOf k n ≡ digitsOf j n
+unfolding digitsOf
+digitsOf-same zero j n hk hj = absurd (omega arith)
+digitsOf-same (suc k) zero n hk hj = absurd (omega arith)
+digitsOf-same (suc k) (suc j) n hk hj = by (ltb n 10) refl (λ a b. digitsOf-same k j (n / 10) a b)
+  where
+    by : (b : Bool) → ltb n 10 ≡ b → (n / 10 < k → n / 10 < j → digitsOf k (n / 10) ≡ digitsOf j (n / 10))
+        → cond b ((48 + n) ∷ []) (digitsOf k (n / 10) ++ ((48 + n % 10) ∷ [])) ≡ cond b ((48 + n) ∷ []) (digitsOf j (n / 10) ++ ((48 + n % 10) ∷ []))
+    by true e r = refl
+    by false e r =
+        let l : 10 ≤ n = ltb-false n 10 e in
+        rw (r (omega arith) (omega arith))
+
+pub decimal-small : (n : ℕ) → n < 10 → decimal n ≡ (48 + n) ∷ []
+unfolding decimal digitsOf
+decimal-small n h = rw (lt-ltb n 10 h)
+
+pub decimal-step : (n : ℕ) → 10 ≤ n → decimal n ≡ decimal (n / 10) ++ ((48 + n % 10) ∷ [])
+unfolding decimal digitsOf
+decimal-step n h = rw (le-ltb n 10 h, digitsOf-same n (suc (n / 10)) (n / 10) (omega arith) (omega arith))
+
+pub step-long : (n : ℕ) → 10 ≤ n → length (decimal n) ≡ length (decimal (n / 10)) + 1
+step-long n h = ap length (decimal-step n h) ∙ length-append (decimal (n / 10)) ((48 + n % 10) ∷ [])
+
+pub small-long : (n : ℕ) → n < 10 → length (decimal n) ≡ 1
+small-long n h = ap length (decimal-small n h)
+
+-- below ten thousand there are at most four digits
+pub decimal-four : (n : ℕ) → n < 10000 → length (decimal n) ≤ 4
+decimal-four n h =
+    elim (decLt n 10) [
+      | yes a ↦ omega (arith, small-long n a)
+      | no a ↦ elim (decLt (n / 10) 10) [
+        | yes b ↦ omega (arith, step-long n (omega arith), small-long (n / 10) b)
+        | no b ↦ elim (decLt (n / 10 / 10) 10) [
+          | yes d ↦ omega (arith, step-long n (omega arith), step-long (n / 10) (omega arith), small-long (n / 10 / 10) d)
+          | no d ↦ omega (arith, step-long n (omega arith), step-long (n / 10) (omega arith), step-long (n / 10 / 10) (omega arith), small-long (n / 10 / 10 / 10) (omega arith))
+        ]
+      ]
+    ]
+
+-- ---- digits put into an output: one, and the last behind those of the tenth
+pub put-small : (at n : ℕ) (out : List ℕ) → n < 10 → at + length (decimal n) ≤ length out → set out at (48 + n) ≡ laid at (decimal n) out
+put-small at n out h r =
+    set-laid at (48 + n) out (omega (arith, small-long n h)) ∙ ap (λ (t : List ℕ). laid at t out) (sym (decimal-small n h))
+
+pub put-step : (at n last : ℕ) (out now : List ℕ) → 10 ≤ n → at + length (decimal n) ≤ length out → last ≡ at + length (decimal (n / 10)) → now ≡ laid at (decimal (n / 10)) out
+    → set now last (48 + n % 10) ≡ laid at (decimal n) out
+put-step at n last out now h r e p =
+    ap (λ (l : List ℕ). set l last (48 + n % 10)) p
+    ∙ set-then last (48 + n % 10) at (decimal (n / 10)) out e (omega (arith, step-long n h))
+    ∙ ap (λ (t : List ℕ). laid at t out) (sym (decimal-step n h))

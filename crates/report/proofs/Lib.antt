@@ -1,0 +1,7 @@
+pub mod Decimal
+pub mod Text
+pub mod Marks
+pub mod Frames
+pub mod Cap
+pub mod Cases
+pub mod Only

@@ -1,0 +1,50 @@
+-- `report::put_good` meets its contract: the lines, the word, the count and a newline, each laid behind the last. Assumes nothing.
+use Prim.Native.Nat.{ℕ}
+use mathlib.Core.Path.{ap, _∙_}
+use lib.ListN.{length, length-set}
+use native.Mathlib.Omega.{arith}
+use borrow.Author.Needs.{needs}
+use Rattle.report.specs.Text.{decimal}
+use Rattle.report.proofs.Frames.{good-long, good-put}
+use Rattle.report.proofs.put_good.Statement.{statement}
+use Rattle.report.proofs.put_good.Tie as tie
+
+put-lines-requires : tie.Need-put-lines-requires
+put-lines-requires c κs = omega (arith, good-long (c .before .before .before .args .file .now) (c .before .before .before .args .filters) (c .before .before .before .args .first) (c .before .before .before .args .second) (c .before .before .before .args .frames))
+
+slice-aggregate-put-text : tie.Need-slice-aggregate-put-text
+slice-aggregate-put-text c = search needs
+
+put-text-requires : tie.Need-put-text-requires
+put-text-requires c κs = omega (arith, good-long (c .before .before .before .before .before .before .before .before .args .file .now) (c .before .before .before .before .before .before .before .before .args .filters) (c .before .before .before .before .before .before .before .before .args .first) (c .before .before .before .before .before .before .before .before .args .second) (c .before .before .before .before .before .before .before .before .args .frames), ap (λ (k : ℕ). length (decimal k)) (c .before .before .before .before .put-lines .ensures .1), c .before .before .before .before .put-lines .ensures .0, c .before .before .before .before .put-lines .kept .1 .1 .1 .1 .1 .0)
+
+put-decimal-requires : tie.Need-put-decimal-requires
+put-decimal-requires c κs = omega (arith, good-long (c .before .before .before .before .before .before .before .before .before .before .before .before .args .file .now) (c .before .before .before .before .before .before .before .before .before .before .before .before .args .filters) (c .before .before .before .before .before .before .before .before .before .before .before .before .args .first) (c .before .before .before .before .before .before .before .before .before .before .before .before .args .second) (c .before .before .before .before .before .before .before .before .before .before .before .before .args .frames), ap (λ (k : ℕ). length (decimal k)) (c .before .before .before .before .before .before .before .before .put-lines .ensures .1), c .before .before .before .before .before .before .before .before .put-lines .ensures .0, c .before .before .before .before .before .before .before .before .put-lines .kept .1 .1 .1 .1 .1 .0, c .before .before .before .put-text .ensures .0, c .before .before .before .put-text .kept .0)
+
+slice-write-out : tie.Need-slice-write-out
+slice-write-out c = omega (arith, good-long (c .before .before .before .before .before .before .before .before .before .before .before .before .before .before .before .args .file .now) (c .before .before .before .before .before .before .before .before .before .before .before .before .before .before .before .args .filters) (c .before .before .before .before .before .before .before .before .before .before .before .before .before .before .before .args .first) (c .before .before .before .before .before .before .before .before .before .before .before .before .before .before .before .args .second) (c .before .before .before .before .before .before .before .before .before .before .before .before .before .before .before .args .frames), ap (λ (k : ℕ). length (decimal k)) (c .before .before .before .before .before .before .before .before .before .before .before .put-lines .ensures .1), c .before .before .before .before .before .before .before .before .before .before .before .put-lines .ensures .0, c .before .before .before .before .before .before .before .before .before .before .before .put-lines .kept .1 .1 .1 .1 .1 .0, c .before .before .before .before .before .before .put-text .ensures .0, c .before .before .before .before .before .before .put-text .kept .0, c .before .before .put-decimal .ensures .0, c .before .before .put-decimal .kept .0)
+
+add-result : tie.Need-add-result
+add-result c = omega (arith, good-long (c .before .before .before .before .before .before .before .before .before .before .before .before .before .before .before .args .file .now) (c .before .before .before .before .before .before .before .before .before .before .before .before .before .before .before .args .filters) (c .before .before .before .before .before .before .before .before .before .before .before .before .before .before .before .args .first) (c .before .before .before .before .before .before .before .before .before .before .before .before .before .before .before .args .second) (c .before .before .before .before .before .before .before .before .before .before .before .before .before .before .before .args .frames), ap (λ (k : ℕ). length (decimal k)) (c .before .before .before .before .before .before .before .before .before .before .before .put-lines .ensures .1), c .before .before .before .before .before .before .before .before .before .before .before .put-lines .ensures .0, c .before .before .before .before .before .before .before .before .before .before .before .put-lines .kept .1 .1 .1 .1 .1 .0, c .before .before .before .before .before .before .put-text .ensures .0, c .before .before .before .before .before .before .put-text .kept .0, c .before .before .put-decimal .ensures .0, c .before .before .put-decimal .kept .0)
+
+same-length : tie.Need-same-length
+same-length c = simp length-set (c .before .before .put-decimal .kept .0 ∙ c .before .before .before .before .before .before .put-text .kept .0 ∙ c .before .before .before .before .before .before .before .before .before .before .before .put-lines .kept .1 .1 .1 .1 .1 .0)
+
+returns : tie.Need-returns
+returns c = (
+  omega (arith, good-long (c .before .before .before .before .before .before .before .before .before .before .before .before .before .before .before .args .file .now) (c .before .before .before .before .before .before .before .before .before .before .before .before .before .before .before .args .filters) (c .before .before .before .before .before .before .before .before .before .before .before .before .before .before .before .args .first) (c .before .before .before .before .before .before .before .before .before .before .before .before .before .before .before .args .second) (c .before .before .before .before .before .before .before .before .before .before .before .before .before .before .before .args .frames), ap (λ (k : ℕ). length (decimal k)) (c .before .before .before .before .before .before .before .before .before .before .before .put-lines .ensures .1), c .before .before .before .before .before .before .before .before .before .before .before .put-lines .ensures .0, c .before .before .before .before .before .before .before .before .before .before .before .put-lines .kept .1 .1 .1 .1 .1 .0, c .before .before .before .before .before .before .put-text .ensures .0, c .before .before .before .before .before .before .put-text .kept .0, c .before .before .put-decimal .ensures .0, c .before .before .put-decimal .kept .0),
+  good-put (c .before .before .before .before .before .before .before .before .before .before .before .before .before .before .before .args .file .now) (c .before .before .before .before .before .before .before .before .before .before .before .before .before .before .before .args .filters) (c .before .before .before .before .before .before .before .before .before .before .before .before .before .before .before .args .first) (c .before .before .before .before .before .before .before .before .before .before .before .before .before .before .before .args .second) (c .before .before .before .before .before .before .before .before .before .before .before .before .before .before .before .args .frames) _ _ _ _ (c .before .before .before .before .before .before .before .before .before .before .before .before .before .before .before .args .out .now) _ _ _ (omega arith) (c .before .before .before .before .before .before .before .before .before .before .before .put-lines .ensures .0) (c .before .before .before .before .before .before .before .before .before .before .before .put-lines .ensures .1) (c .before .before .before .before .before .before .before .before .before .before .before .put-lines .ensures .2) (c .before .before .before .before .before .before .put-text .ensures .0) (c .before .before .before .before .before .before .put-text .ensures .1) (c .before .before .put-decimal .ensures .0) (c .before .before .put-decimal .ensures .1),
+)
+
+pub put-good-spec : {M : Type 1} → statement M
+put-good-spec =
+    tie.close
+    (tie.spec
+    put-lines-requires
+    slice-aggregate-put-text
+    put-text-requires
+    put-decimal-requires
+    slice-write-out
+    add-result
+    same-length
+    returns)

@@ -1,0 +1,19 @@
+-- How long the lines are, whatever the verdicts.
+-- Source: the outline, "Frame file and program".
+use Prim.Native.Nat.{ℕ, zero, suc, _+_}
+use mathlib.Core.Bool.{cond}
+use lib.Dec.{eqb}
+use lib.ListN.{length}
+use Rattle.report.specs.Text.{decimal}
+
+-- a mark for each filter, or one `-`
+unfoldable pub widthOf : ℕ → ℕ
+widthOf filters = cond (eqb filters 0) 1 filters
+
+-- the index, a space, the marks, a newline
+abbrev pub lineLength : ℕ → ℕ → ℕ
+lineLength filters index = length (decimal index) + 2 + widthOf filters
+
+unfoldable pub linesLength : ℕ → ℕ → ℕ
+linesLength filters zero = 0
+linesLength filters (suc frames) = linesLength filters frames + lineLength filters frames
