@@ -1,0 +1,21 @@
+-- The status word's bits that decide. Bit 6, error, decides nothing here.
+-- Source: ESP32-C3 manual, TWAI chapter, status register; the outline, "Decisions".
+use Prim.Native.Nat.{ℕ}
+use mathlib.Core.Bool.{Bool}
+use lib.Dec.{eqb}
+use Rattle.laws.specs.Bits.{bitAt}
+
+abbrev pub isSet : ℕ → ℕ → Bool
+isSet status position = eqb (bitAt status position) 1
+
+abbrev pub receiveReady : ℕ → Bool
+receiveReady status = isSet status 0
+
+abbrev pub transmitFree : ℕ → Bool
+transmitFree status = isSet status 2
+
+abbrev pub inBusOff : ℕ → Bool
+inBusOff status = isSet status 7
+
+abbrev pub missed : ℕ → Bool
+missed status = isSet status 8
