@@ -1,0 +1,4 @@
+pub mod Ring
+pub mod View
+pub mod Same
+pub mod Moves

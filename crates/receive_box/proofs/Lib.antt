@@ -1,0 +1,4 @@
+pub mod Only
+pub mod Rules
+pub mod Kept
+pub mod Refusals

@@ -1,0 +1,102 @@
+-- An answer of the box is told by what is said of it, so two that meet a contract are equal. Assumes nothing.
+use Prim.{Unit}
+use mathlib.Core.Path.{_≡_, refl, ap}
+use Rattle.laws.specs.Said.{Said, refuses, gives}
+use Rattle.laws.proofs.Only.{only}
+use Rattle.refusals.proofs.Only.{refusalAt, refusal-at}
+use Rattle.queue.specs.Ring.{TakeSaid}
+use Rattle.queue.proofs.Only.{takeBack, take-back}
+use Rattle.fifo.specs.Ring.{Outcome}
+use Rattle.fifo.proofs.Only.{arrivalBack, arrival-back}
+use Rattle.receive_box.specs.declared.ReceiveBox.{ReceiveBox}
+use Rattle.receive_box.specs.declared.Arriving.{Arriving}
+use Rattle.receive_box.specs.declared.Arriving.the-variants as arriving
+use Rattle.receive_box.specs.declared.Arrived.{Arrived}
+use Rattle.receive_box.specs.declared.Taken.{Taken}
+use Rattle.receive_box.specs.declared.Starting.{Starting}
+use Rattle.receive_box.specs.declared.Starting.the-variants as starting
+use Rattle.receive_box.specs.declared.Started.{Started}
+use Rattle.receive_box.specs.declared.Stepping.{Stepping}
+use Rattle.receive_box.specs.declared.Stepping.the-variants as stepping
+use Rattle.receive_box.specs.declared.StepAnswer.{StepAnswer}
+use Rattle.receive_box.specs.declared.Stepped.{Stepped}
+use Rattle.receive_box.specs.Step.{Told, done, lost, finished, steppingSaid, StepSaid, stepSaid, steppedSaid}
+use Rattle.receive_box.specs.Calls.{arrivingSaid, arrivedSaid, takenSaid, startingSaid, startedSaid}
+
+arrivingBack : Said Outcome → Arriving
+arrivingBack (gives o) = arriving.Answered (arrivalBack o)
+arrivingBack (refuses k n) = arriving.Refused (refusalAt k n)
+
+arriving-back : (a : Arriving) → arrivingBack (arrivingSaid a) ≡ a
+unfolding arrivingBack
+arriving-back (arriving.Answered a) = ap arriving.Answered (arrival-back a)
+arriving-back (arriving.Refused f) = ap arriving.Refused (refusal-at f)
+
+arrivedBack : Said Outcome × ReceiveBox → Arrived
+arrivedBack p = record { answer = arrivingBack (p .0); state = p .1 }
+
+arrived-back : (r : Arrived) → arrivedBack (arrivedSaid r) ≡ r
+unfolding arrivedBack
+arrived-back r = rw (arriving-back (r .answer))
+
+pub only-arrived : (r s : Arrived) → arrivedSaid r ≡ arrivedSaid s → r ≡ s
+only-arrived = only arrivedSaid arrivedBack arrived-back
+
+takenBack : TakeSaid × ReceiveBox → Taken
+takenBack p = record { answer = takeBack (p .0); state = p .1 }
+
+taken-back : (r : Taken) → takenBack (takenSaid r) ≡ r
+unfolding takenBack
+taken-back r = rw (take-back (r .answer))
+
+pub only-taken : (r s : Taken) → takenSaid r ≡ takenSaid s → r ≡ s
+only-taken = only takenSaid takenBack taken-back
+
+startingBack : Said (Unit {0}) → Starting
+startingBack (gives u) = starting.Started
+startingBack (refuses k n) = starting.Refused (refusalAt k n)
+
+starting-back : (a : Starting) → startingBack (startingSaid a) ≡ a
+unfolding startingBack
+starting-back starting.Started = refl
+starting-back (starting.Refused f) = ap starting.Refused (refusal-at f)
+
+startedBack : Said (Unit {0}) × ReceiveBox → Started
+startedBack p = record { answer = startingBack (p .0); state = p .1 }
+
+started-back : (r : Started) → startedBack (startedSaid r) ≡ r
+unfolding startedBack
+started-back r = rw (starting-back (r .answer))
+
+pub only-started : (r s : Started) → startedSaid r ≡ startedSaid s → r ≡ s
+only-started = only startedSaid startedBack started-back
+
+steppingBack : Said Told → Stepping
+steppingBack (gives done) = stepping.Done
+steppingBack (gives lost) = stepping.Lost
+steppingBack (gives (finished f)) = stepping.Finished f
+steppingBack (refuses k n) = stepping.Refused (refusalAt k n)
+
+stepping-back : (a : Stepping) → steppingBack (steppingSaid a) ≡ a
+unfolding steppingBack
+stepping-back stepping.Done = refl
+stepping-back stepping.Lost = refl
+stepping-back (stepping.Finished f) = refl
+stepping-back (stepping.Refused f) = ap stepping.Refused (refusal-at f)
+
+stepBack : StepSaid → StepAnswer
+stepBack p = record { stepping = steppingBack (p .0); command = p .1; lost = p .2 }
+
+step-back : (a : StepAnswer) → stepBack (stepSaid a) ≡ a
+unfolding stepBack
+step-back a = rw (stepping-back (a .stepping))
+
+steppedBack : StepSaid × ReceiveBox → Stepped
+steppedBack p = record { answer = stepBack (p .0); state = p .1 }
+
+stepped-back : (r : Stepped) → steppedBack (steppedSaid r) ≡ r
+unfolding steppedBack
+stepped-back r = rw (step-back (r .answer))
+
+pub only-stepped : (r s : Stepped) → steppedSaid r ≡ steppedSaid s → r ≡ s
+only-stepped = only steppedSaid steppedBack stepped-back

@@ -1,0 +1,71 @@
+-- A fresh box, an arrival, a take and a start.
+-- Source: the outline, "The box", and refusals 8 and 10.
+use Prim.{Unit, tt}
+use Prim.Native.Nat.{ℕ}
+use mathlib.Core.Bool.{cond}
+use mathlib.Core.List.{List}
+use Rattle.laws.specs.Said.{Said, refuses, gives}
+use Rattle.refusals.specs.Table.{refusalSaid}
+use Rattle.queue.specs.Ring as Q
+use Rattle.fifo.specs.Ring as F
+use Rattle.words.specs.declared.Words.{Words}
+use Rattle.receive_box.specs.declared.Phase.the-variants as phase
+use Rattle.receive_box.specs.declared.ReceiveBox.{ReceiveBox}
+use Rattle.receive_box.specs.declared.Arriving.{Arriving}
+use Rattle.receive_box.specs.declared.Arriving.the-variants as arriving
+use Rattle.receive_box.specs.declared.Arrived.{Arrived}
+use Rattle.receive_box.specs.declared.Taken.{Taken}
+use Rattle.receive_box.specs.declared.Starting.{Starting}
+use Rattle.receive_box.specs.declared.Starting.the-variants as starting
+use Rattle.receive_box.specs.declared.Started.{Started}
+use Rattle.receive_box.specs.Rules.{isIdle, boxOk}
+use Rattle.receive_box.specs.Step.{withOf, firstPhase}
+
+-- empty FIFO and queue, and no drain
+abbrev pub freshBox : ReceiveBox
+freshBox =
+    record {
+      fifo = F.emptyFifo;
+      queue = Q.emptyQueue Q.queueLimit;
+      phase = phase.Idle;
+      held = Q.blank;
+      words = record { interrupt = 0; enable = 0; status = 0 };
+    }
+
+-- an arrival changes the FIFO, and answers what became of it
+unfoldable pub arriveOf : ReceiveBox → List ℕ → Said F.Outcome × ReceiveBox
+arriveOf g frame =
+    cond (boxOk g)
+    (gives (F.arriveOf (g .fifo) frame .0), withOf g (F.arriveOf (g .fifo) frame .1) (g .queue) (g .phase) (g .held))
+    (refuses 10 0, g)
+
+abbrev pub arrivingSaid : Arriving → Said F.Outcome
+arrivingSaid (arriving.Answered a) = gives (F.arrivalSaid a)
+arrivingSaid (arriving.Refused f) = refusalSaid f
+
+abbrev pub arrivedSaid : Arrived → Said F.Outcome × ReceiveBox
+arrivedSaid r = (arrivingSaid (r .answer), r .state)
+
+-- a take changes the queue, and answers as it does
+unfoldable pub takeOf : ReceiveBox → Q.TakeSaid × ReceiveBox
+takeOf g =
+    cond (boxOk g)
+    (Q.takeOf Q.queueLimit (g .queue) .0, withOf g (g .fifo) (Q.takeOf Q.queueLimit (g .queue) .1) (g .phase) (g .held))
+    ((refuses 10 0, Q.blank), g)
+
+abbrev pub takenSaid : Taken → Q.TakeSaid × ReceiveBox
+takenSaid r = (Q.takeSaid (r .answer), r .state)
+
+-- a start stores its words
+abbrev pub begun : ReceiveBox → Words → ReceiveBox
+begun g w = record { fifo = g .fifo; queue = g .queue; phase = firstPhase w; held = g .held; words = w }
+
+unfoldable pub startOf : ReceiveBox → Words → Said (Unit {0}) × ReceiveBox
+startOf g w = cond (boxOk g) (cond (isIdle (g .phase)) (gives tt, begun g w) (refuses 8 0, g)) (refuses 10 0, g)
+
+abbrev pub startingSaid : Starting → Said (Unit {0})
+startingSaid starting.Started = gives tt
+startingSaid (starting.Refused f) = refusalSaid f
+
+abbrev pub startedSaid : Started → Said (Unit {0}) × ReceiveBox
+startedSaid r = (startingSaid (r .answer), r .state)
