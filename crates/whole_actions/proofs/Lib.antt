@@ -1,0 +1,4 @@
+pub mod Demand
+pub mod Places
+pub mod Content
+pub mod RuledOut
