@@ -1,0 +1,9 @@
+pub mod Format
+pub mod Answers
+pub mod Capped
+pub mod Stored
+pub mod Filled
+pub mod Counted
+pub mod Run
+pub mod Only
+pub mod Worked
