@@ -1,4 +1,4 @@
-# Sourced by setup.sh on a machine that is not x86-64, because libexports.a is for x86-64 alone: a Rust compiler with
+# Sourced by setup.sh on a machine that is not x86-64, because the archives are for x86-64 alone: a Rust compiler with
 # its library for x86-64, a linker and an emulator. They are Debian's packages, unpacked into a cache, not installed.
 CROSS=${XDG_CACHE_HOME:-$HOME/.cache}/chherbolat/cross
 TREE=$CROSS/root

@@ -1,6 +1,7 @@
 # Sourced by the scripts beside it: where things are, how to build and run a program, and on a machine that is not
 # x86-64 the means for both. A script that can do without them defines `lack` first, which gets the reason.
-# TWAI_SRC: the folder that holds the driver's src/twai/. RATTLE_LIB_DIR: the folder that holds libexports.a.
+# TWAI_SRC: the folder that holds the driver's src/twai/. RATTLE_LIB_DIR: the folder that holds the archives of
+# the export crates.
 # CARGO_TARGET_DIR: where cargo builds.
 declare -F lack >/dev/null || lack() {
     echo "host: $1" >&2
@@ -21,6 +22,14 @@ build() { # PROFILE PROGRAM
 
 program() { # PROFILE PROGRAM: its path
     echo "$CARGO_TARGET_DIR/${CARGO_BUILD_TARGET:+$CARGO_BUILD_TARGET/}$1/$2"
+}
+
+instructions() { # PROGRAM ARGUMENTS...: how many it executes, as callgrind counts, or the emulator: one line of log for each
+    if [ ${#EMULATOR[@]} = 0 ]; then
+        valgrind --tool=callgrind --callgrind-out-file=/dev/null "$@" 2>&1 >/dev/null | sed -n 's/.*Collected : //p'
+    else
+        "${EMULATOR[@]}" -singlestep -d exec,nochain -D /dev/stderr "$@" 2>&1 >/dev/null | wc -l
+    fi
 }
 
 run_program() { # PROFILE PROGRAM ARGUMENTS...

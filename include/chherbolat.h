@@ -1,4 +1,4 @@
-/* The exports of libexports.a. docs/ABI.md says what each gives and refuses. A slice is a pointer and a length. */
+/* The exports of libexports_frames.a, libexports_filters.a, libexports_matcher.a, libexports_decisions.a and libexports_box.a. docs/ABI.md says what each gives and refuses. A slice is a pointer and a length. */
 #ifndef CHHERBOLAT_H
 #define CHHERBOLAT_H
 
@@ -72,6 +72,15 @@ chherbolat_answer chherbolat_dual_extended_filter_new(const uint8_t *first, size
 chherbolat_answer chherbolat_dual_extended_filter_new_from_code_mask(uint16_t first_code, uint16_t second_code,
                                                                      uint16_t first_mask, uint16_t second_mask,
                                                                      uint8_t *registers, size_t registers_length);
+
+chherbolat_answer chherbolat_matcher_accepts(uint8_t kind, const uint8_t *registers, size_t registers_length,
+                                             const uint8_t *frame, size_t frame_length);
+
+chherbolat_answer chherbolat_transmit(uint32_t status, bool error_passive);
+chherbolat_answer chherbolat_poll(uint32_t status, bool error_passive, bool in_flight);
+chherbolat_answer chherbolat_receive(uint32_t status);
+
+chherbolat_answer chherbolat_box_script(const uint8_t *script, size_t script_length, uint8_t *out, size_t out_length);
 
 #ifdef __cplusplus
 }

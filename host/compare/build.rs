@@ -1,9 +1,25 @@
-//! Says where libexports.a is: in the folder RATTLE_LIB_DIR. A new archive causes a new build.
+//! Says where the library's archives are: in the folder RATTLE_LIB_DIR. A new archive causes a new build. The box's
+//! archive may be missing.
 use std::{env, path::Path};
+
+const ARCHIVES: [&str; 4] =
+    ["libexports_frames.a", "libexports_filters.a", "libexports_matcher.a", "libexports_decisions.a"];
+const BOX_ARCHIVE: &str = "libexports_box.a";
 
 fn main() {
     println!("cargo:rerun-if-env-changed=RATTLE_LIB_DIR");
-    let folder = env::var("RATTLE_LIB_DIR").expect("RATTLE_LIB_DIR: the folder that holds libexports.a");
-    println!("cargo:rustc-link-search=native={folder}");
-    println!("cargo:rerun-if-changed={}", Path::new(&folder).join("libexports.a").display());
+    let folder = env::var("RATTLE_LIB_DIR").expect("RATTLE_LIB_DIR: the folder that holds the library's archives");
+    let folder = Path::new(&folder);
+    println!("cargo:rustc-link-search=native={}", folder.display());
+    for archive in ARCHIVES {
+        println!("cargo:rerun-if-changed={}", folder.join(archive).display());
+    }
+    println!("cargo:rustc-check-cfg=cfg(box_archive)");
+    let receive_box = folder.join(BOX_ARCHIVE);
+    if receive_box.exists() {
+        println!("cargo:rustc-cfg=box_archive");
+        println!("cargo:rerun-if-changed={}", receive_box.display());
+    } else {
+        println!("cargo:rerun-if-changed={}", folder.display());
+    }
 }

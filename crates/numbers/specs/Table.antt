@@ -1,6 +1,6 @@
 -- The outline's numbers: for each, what the definitions answer and what the outline says.
 -- Source: the outline, "Numbers to check".
-use Prim.Native.Nat.{ℕ}
+use Prim.Native.Nat.{ℕ, _-_}
 use mathlib.Core.Bool.{Bool, true, false}
 use mathlib.Core.List.{List, [], _∷_, _++_}
 use lib.ListN.{replicate}
@@ -11,6 +11,9 @@ use Rattle.filters.specs.Table.{singleStandard, dualStandard, dualExtended}
 use Rattle.filters.specs.Answers.{compileOf, codeMaskOf, bothWithin}
 use Rattle.frames.specs.Buffer.{Frame, bufferOf, dataOf}
 use Rattle.frames.specs.Building.{buildOf, judged}
+use Rattle.matcher.specs.Words.{matchOf}
+use Rattle.box_actions.specs.P12.{boxBefore, drainDid, boxAfter, queuedIn, wholesIn, lostBy}
+use Rattle.answers.specs.Answers.{flagSaid}
 
 -- an answer, and bytes that it comes with
 abbrev pub Answered : Type 0
@@ -46,8 +49,8 @@ one = 49
 abbrev spare : ℕ → List ℕ
 spare n = replicate n 120
 
-abbrev pub rows : List Row
-rows =
+abbrev pub valueRows : List Row
+valueRows =
     -- P1
     row (buildOf (standard 0x7FF 0 [])) (gives 13, 0x00 ∷ 0xFF ∷ 0xE0 ∷ zeros 10)
     ∷ row (buildOf (standard 0x800 0 [])) (refuses 1 0, zeros 13)
@@ -77,4 +80,17 @@ rows =
     (gives 8, 0xFF ∷ 0xE0 ∷ 0 ∷ 0 ∷ 0xFF ∷ 0xDF ∷ 0xFF ∷ 0xFF ∷ [])
     ∷ row (compileOf singleStandard ((spare 10 ++ one ∷ []) ∷ spare 1 ∷ spare 8 ∷ spare 8 ∷ []))
     (gives 8, 0 ∷ 0x20 ∷ 0 ∷ 0 ∷ 0xFF ∷ 0xDF ∷ 0xFF ∷ 0xFF ∷ [])
+    -- P11
+    ∷ row (flagSaid (matchOf 0 (compileOf singleStandard (spare 11 ∷ spare 1 ∷ (replicate 7 zero ++ one ∷ []) ∷ spare 8 ∷ []) .1) (bufferOf (standard 1 0 []))), [])
+    (gives 0, [])
     ∷ []
+
+-- P12: the box before the drain (how many are queued, and a 1 for each whole entry), and after it (how many are queued; stored, lost, left)
+abbrev pub boxRows : List Row
+boxRows =
+    row (gives (queuedIn boxBefore), wholesIn boxBefore) (gives 31, 1 ∷ 1 ∷ 1 ∷ [])
+    ∷ row (gives (queuedIn boxAfter), (queuedIn boxAfter - queuedIn boxBefore) ∷ lostBy drainDid ∷ boxAfter .fifo .count ∷ []) (gives 32, 1 ∷ 1 ∷ 1 ∷ [])
+    ∷ []
+
+abbrev pub rows : List Row
+rows = valueRows ++ boxRows

@@ -2,7 +2,7 @@
 ghost use Prim.Native.Nat.{_+_, _≤_};
 use crate::replay;
 use crate::text;
-use exports::Answer;
+use answers::Answer;
 
 // A stored answer, and the eight registers behind it.
 fn leaves(answer: Answer, registers: &[u8; 8], stored: &[u8]) -> bool {
@@ -44,14 +44,14 @@ fn two_patterns(extended_single: bool, bytes: &[u8]) -> bool {
     let mut registers = [0xA5u8; 8];
     let stored = text::part(bytes, end, 17);
     if extended_single {
-        let answer = exports::chherbolat_single_extended_filter_new(
+        let answer = exports_filters::chherbolat_single_extended_filter_new(
             pattern(bytes, 1),
             pattern(bytes, b),
             &mut registers,
         );
         return leaves(answer, &registers, stored);
     }
-    let answer = exports::chherbolat_dual_extended_filter_new(
+    let answer = exports_filters::chherbolat_dual_extended_filter_new(
         pattern(bytes, 1),
         pattern(bytes, b),
         &mut registers,
@@ -65,7 +65,7 @@ fn four_patterns(bytes: &[u8]) -> bool {
     let d = next(bytes, c);
     let end = next(bytes, d);
     let mut registers = [0xA5u8; 8];
-    let answer = exports::chherbolat_single_standard_filter_new(
+    let answer = exports_filters::chherbolat_single_standard_filter_new(
         pattern(bytes, 1),
         pattern(bytes, b),
         pattern(bytes, c),
@@ -82,7 +82,7 @@ fn five_patterns(bytes: &[u8]) -> bool {
     let e = next(bytes, d);
     let end = next(bytes, e);
     let mut registers = [0xA5u8; 8];
-    let answer = exports::chherbolat_dual_standard_filter_new(
+    let answer = exports_filters::chherbolat_dual_standard_filter_new(
         pattern(bytes, 1),
         pattern(bytes, b),
         pattern(bytes, c),
@@ -106,7 +106,7 @@ pub(crate) fn by_patterns(bytes: &[u8]) -> bool {
 
 fn single_standard(bytes: &[u8]) -> bool {
     let mut registers = [0xA5u8; 8];
-    let answer = exports::chherbolat_single_standard_filter_new_from_code_mask(
+    let answer = exports_filters::chherbolat_single_standard_filter_new_from_code_mask(
         short(bytes, 1),
         short(bytes, 3),
         flag(bytes, 5),
@@ -122,7 +122,7 @@ fn single_standard(bytes: &[u8]) -> bool {
 
 fn single_extended(bytes: &[u8]) -> bool {
     let mut registers = [0xA5u8; 8];
-    let answer = exports::chherbolat_single_extended_filter_new_from_code_mask(
+    let answer = exports_filters::chherbolat_single_extended_filter_new_from_code_mask(
         long(bytes, 1),
         long(bytes, 5),
         flag(bytes, 9),
@@ -134,7 +134,7 @@ fn single_extended(bytes: &[u8]) -> bool {
 
 fn dual_standard(bytes: &[u8]) -> bool {
     let mut registers = [0xA5u8; 8];
-    let answer = exports::chherbolat_dual_standard_filter_new_from_code_mask(
+    let answer = exports_filters::chherbolat_dual_standard_filter_new_from_code_mask(
         short(bytes, 1),
         short(bytes, 3),
         flag(bytes, 5),
@@ -152,7 +152,7 @@ fn dual_standard(bytes: &[u8]) -> bool {
 
 fn dual_extended(bytes: &[u8]) -> bool {
     let mut registers = [0xA5u8; 8];
-    let answer = exports::chherbolat_dual_extended_filter_new_from_code_mask(
+    let answer = exports_filters::chherbolat_dual_extended_filter_new_from_code_mask(
         short(bytes, 1),
         short(bytes, 3),
         short(bytes, 5),

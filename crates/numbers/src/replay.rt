@@ -1,7 +1,7 @@
 // Each stored answer of the Rust beside ours. A letter says which function, or functions, a line is about.
 use crate::compilers;
 use crate::text;
-use exports::Answer;
+use answers::Answer;
 
 // How far the replay is: the line so far, and what was counted.
 pub struct Progress {
@@ -34,7 +34,7 @@ fn leaves(answer: Answer, frame: &[u8; 13], stored: &[u8]) -> bool {
 fn standard_id(bytes: &[u8]) -> bool {
     let raw = (text::number(bytes, 0, 2) % 0x1_0000) as u16;
     says(
-        exports::chherbolat_standard_id_new(raw),
+        exports_frames::chherbolat_standard_id_new(raw),
         text::part(bytes, 2, 9),
     )
 }
@@ -42,7 +42,7 @@ fn standard_id(bytes: &[u8]) -> bool {
 fn extended_id(bytes: &[u8]) -> bool {
     let raw = (text::number(bytes, 0, 4) % 0x1_0000_0000) as u32;
     says(
-        exports::chherbolat_extended_id_new(raw),
+        exports_frames::chherbolat_extended_id_new(raw),
         text::part(bytes, 4, 9),
     )
 }
@@ -50,7 +50,7 @@ fn extended_id(bytes: &[u8]) -> bool {
 fn base_id(bytes: &[u8]) -> bool {
     let raw = (text::number(bytes, 0, 4) % 0x1_0000_0000) as u32;
     says(
-        exports::chherbolat_extended_id_standard_id(raw),
+        exports_frames::chherbolat_extended_id_standard_id(raw),
         text::part(bytes, 4, 9),
     )
 }
@@ -64,7 +64,7 @@ fn new_from_parameters(bytes: &[u8]) -> bool {
     let length = (text::number(bytes, 15, 2) % 0x1_0000) as usize;
     let data = text::part(bytes, 17, length);
     let mut frame = [0xA5u8; 13];
-    let answer = exports::chherbolat_new_from_parameters(
+    let answer = exports_frames::chherbolat_new_from_parameters(
         extended,
         id,
         remote,
@@ -84,10 +84,10 @@ fn new(own: bool, bytes: &[u8]) -> bool {
     let stored = text::part(bytes, 7 + length, 22);
     let mut frame = [0xA5u8; 13];
     if own {
-        let answer = exports::chherbolat_new_self_reception(extended, id, data, &mut frame);
+        let answer = exports_frames::chherbolat_new_self_reception(extended, id, data, &mut frame);
         return leaves(answer, &frame, stored);
     }
-    let answer = exports::chherbolat_new(extended, id, data, &mut frame);
+    let answer = exports_frames::chherbolat_new(extended, id, data, &mut frame);
     leaves(answer, &frame, stored)
 }
 
@@ -95,31 +95,31 @@ fn new(own: bool, bytes: &[u8]) -> bool {
 fn read_numbers(bytes: &[u8]) -> bool {
     let frame = text::part(bytes, 0, 13);
     given(
-        exports::chherbolat_is_extended_format(frame),
+        exports_frames::chherbolat_is_extended_format(frame),
         text::number(bytes, 13, 1),
     )
         && given(
-            exports::chherbolat_is_remote_request(frame),
+            exports_frames::chherbolat_is_remote_request(frame),
             text::number(bytes, 14, 1),
         )
         && given(
-            exports::chherbolat_is_self_reception(frame),
+            exports_frames::chherbolat_is_self_reception(frame),
             text::number(bytes, 15, 1),
         )
         && given(
-            exports::chherbolat_data_length_code(frame),
+            exports_frames::chherbolat_data_length_code(frame),
             text::number(bytes, 16, 1),
         )
         && given(
-            exports::chherbolat_data_length(frame),
+            exports_frames::chherbolat_data_length(frame),
             text::number(bytes, 17, 1),
         )
         && given(
-            exports::chherbolat_data_offset(frame),
+            exports_frames::chherbolat_data_offset(frame),
             text::number(bytes, 18, 1),
         )
         && given(
-            exports::chherbolat_identifier(frame),
+            exports_frames::chherbolat_identifier(frame),
             text::number(bytes, 19, 4),
         )
 }
@@ -135,15 +135,42 @@ fn lays(answer: Answer, out: &[u8; 13], stored: &[u8]) -> bool {
 fn read_parts(bytes: &[u8]) -> bool {
     let frame = text::part(bytes, 0, 13);
     let mut data = [0u8; 13];
-    let taken = exports::chherbolat_data(frame, &mut data);
+    let taken = exports_frames::chherbolat_data(frame, &mut data);
     let mut used = [0u8; 13];
-    let all = exports::chherbolat_as_slice(frame, &mut used);
+    let all = exports_frames::chherbolat_as_slice(frame, &mut used);
     lays(taken, &data, text::part(bytes, 24, bytes.len()))
         && lays(
             all,
             &used,
             text::part(frame, 0, text::byte(bytes, 23) as usize),
         )
+}
+
+fn matched(bytes: &[u8]) -> bool {
+    let answer = exports_matcher::chherbolat_matcher_accepts(
+        text::byte(bytes, 0),
+        text::part(bytes, 1, 8),
+        text::part(bytes, 9, 13),
+    );
+    says(answer, text::part(bytes, 22, 9))
+}
+
+fn decided(bytes: &[u8]) -> bool {
+    let status = (text::number(bytes, 1, 4) % 0x1_0000_0000) as u32;
+    let passive = text::byte(bytes, 5) == 1;
+    let flight = text::byte(bytes, 6) == 1;
+    let stored = text::part(bytes, 7, 9);
+    match text::byte(bytes, 0) {
+        0 => says(
+            exports_decisions::chherbolat_transmit(status, passive),
+            stored,
+        ),
+        1 => says(
+            exports_decisions::chherbolat_poll(status, passive, flight),
+            stored,
+        ),
+        _ => says(exports_decisions::chherbolat_receive(status), stored),
+    }
 }
 
 fn agrees(function: u8, bytes: &[u8]) -> bool {
@@ -157,6 +184,8 @@ fn agrees(function: u8, bytes: &[u8]) -> bool {
         b'r' => read_numbers(bytes) && read_parts(bytes),
         b'p' => compilers::by_patterns(bytes),
         b'c' => compilers::by_code_and_mask(bytes),
+        b'a' => matched(bytes),
+        b'd' => decided(bytes),
         _ => false,
     }
 }

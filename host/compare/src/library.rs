@@ -1,7 +1,8 @@
-//! The library's side of the face: what libexports.a declares (docs/ABI.md).
+//! The library's side of the face: what its archives declare (docs/ABI.md).
 use oracle::{answer::Answer, face::Face};
 
 mod filters;
+pub mod receive_box;
 
 pub const LIBRARY: Face = Face {
     standard_id_new: chherbolat_standard_id_new,
@@ -20,9 +21,13 @@ pub const LIBRARY: Face = Face {
     data: chherbolat_data,
     as_slice: chherbolat_as_slice,
     filters: filters::FILTERS,
+    matcher_accepts: chherbolat_matcher_accepts,
+    transmit: chherbolat_transmit,
+    poll: chherbolat_poll,
+    receive: chherbolat_receive,
 };
 
-#[link(name = "exports", kind = "static")]
+#[link(name = "exports_frames", kind = "static")]
 unsafe extern "C" {
     fn chherbolat_standard_id_new(raw: u16) -> Answer;
     fn chherbolat_extended_id_new(raw: u32) -> Answer;
@@ -63,4 +68,22 @@ unsafe extern "C" {
     fn chherbolat_identifier(frame: *const u8, frame_length: usize) -> Answer;
     fn chherbolat_data(frame: *const u8, frame_length: usize, out: *mut u8, out_length: usize) -> Answer;
     fn chherbolat_as_slice(frame: *const u8, frame_length: usize, out: *mut u8, out_length: usize) -> Answer;
+}
+
+#[link(name = "exports_matcher", kind = "static")]
+unsafe extern "C" {
+    fn chherbolat_matcher_accepts(
+        kind: u8,
+        registers: *const u8,
+        registers_length: usize,
+        frame: *const u8,
+        frame_length: usize,
+    ) -> Answer;
+}
+
+#[link(name = "exports_decisions", kind = "static")]
+unsafe extern "C" {
+    fn chherbolat_transmit(status: u32, error_passive: bool) -> Answer;
+    fn chherbolat_poll(status: u32, error_passive: bool, in_flight: bool) -> Answer;
+    fn chherbolat_receive(status: u32) -> Answer;
 }

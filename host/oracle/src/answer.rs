@@ -6,6 +6,7 @@ pub const NON_COMPLIANT_CODE: u32 = 3;
 pub const PATTERN_LENGTH: u32 = 4;
 pub const PATTERN_BYTE: u32 = 5;
 pub const OUTPUT_TOO_SHORT: u32 = 6;
+pub const FILTER_KIND: u32 = 7;
 pub const WRONG_SLICE_LENGTH: u32 = 14;
 
 #[repr(C)]

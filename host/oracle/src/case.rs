@@ -11,6 +11,8 @@ pub enum Case {
     Read(Read),
     Patterns(Patterns),
     CodeMask(CodeMask),
+    Match(Match),
+    Decide(Decision),
 }
 
 #[derive(Debug, Clone, PartialEq, Eq)]
@@ -54,4 +56,22 @@ pub struct CodeMask {
     pub arguments: Vec<u32>,
     /// The length of the slice that is lent for the registers.
     pub room: usize,
+}
+
+/// A filter's registers against a frame.
+#[derive(Debug, Clone, PartialEq, Eq)]
+pub struct Match {
+    pub kind: u8,
+    pub registers: Vec<u8>,
+    pub frame: Vec<u8>,
+    /// What the characters say, where the registers were made from patterns for the frame's format.
+    pub by_characters: Option<bool>,
+}
+
+/// A status word, and what else a decision asks.
+#[derive(Debug, Clone, Copy, PartialEq, Eq)]
+pub enum Decision {
+    Transmit { status: u32, error_passive: bool },
+    Poll { status: u32, error_passive: bool, in_flight: bool },
+    Receive { status: u32 },
 }

@@ -1,11 +1,13 @@
 //! The cases: a sample that reaches every branch, all combinations at the limits, and as many random ones as asked for.
 use crate::{
     case::{Build, Case, Constructor, Read},
-    face::FRAME_LENGTH,
+    face::{FRAME_LENGTH, filters::Filters},
     random::Random,
 };
 
+mod decisions;
 mod filters;
+pub mod matcher;
 
 /// Longer than any reader needs, to see that the rest stays.
 pub const OUT_LENGTH: usize = 16;
@@ -53,8 +55,8 @@ fn codes() -> impl Iterator<Item = usize> {
     (0..=40).chain([99, 255, 256, (1 << 32) + 8, usize::MAX])
 }
 
-/// Visits every case that is compared, with `count` random ones of each kind.
-pub fn all(count: u64, visit: &mut impl FnMut(Case)) {
+/// Visits every case that is compared, with `count` random ones of each kind. The tables' compilers make filters to match.
+pub fn all(count: u64, compilers: &[&Filters], visit: &mut impl FnMut(Case)) {
     sample(visit);
     identifiers(count, visit);
     builds_at_limits(visit);
@@ -63,6 +65,8 @@ pub fn all(count: u64, visit: &mut impl FnMut(Case)) {
     frames_of_wrong_length(visit);
     outputs_of_every_length(visit);
     filters::all(count, visit);
+    matcher::all(count, compilers, visit);
+    decisions::all(count, visit);
 }
 
 /// Visits a few thousand cases that reach every branch.
@@ -79,6 +83,8 @@ pub fn sample(visit: &mut impl FnMut(Case)) {
         }
     }
     filters::sample(visit);
+    matcher::sample(visit);
+    decisions::sample(visit);
 }
 
 fn sample_identifiers(random: &mut Random, visit: &mut impl FnMut(Case)) {

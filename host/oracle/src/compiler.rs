@@ -1,4 +1,5 @@
 //! The four filter compilers, and what each is given (docs/ABI.md).
+use std::ops::Range;
 
 #[derive(Debug, Clone, Copy, PartialEq, Eq)]
 pub enum Compiler {
@@ -29,6 +30,21 @@ impl Compiler {
             Compiler::SingleExtended => &[29, 1],
             Compiler::DualStandard => &[11, 1, 8, 11, 1],
             Compiler::DualExtended => &[16, 16],
+        }
+    }
+
+    /// The compiler for a kind and a format.
+    pub fn of(dual: bool, extended: bool) -> Self {
+        Compiler::ALL[2 * usize::from(dual) + usize::from(extended)]
+    }
+
+    /// The patterns of each half; a single filter is one half.
+    pub fn halves(self) -> Vec<Range<usize>> {
+        match self {
+            Compiler::SingleStandard => vec![0..4],
+            Compiler::SingleExtended => vec![0..2],
+            Compiler::DualStandard => vec![0..3, 3..5],
+            Compiler::DualExtended => vec![0..1, 1..2],
         }
     }
 

@@ -1,5 +1,5 @@
 //! The driver's side of the face. What the driver has no counterpart for is added by the rules of docs/ABI.md:
-//! the refusals 14 and 6, refusal 1 where a constructor answers `None`, and the number of a refused `new`.
+//! the refusals 14 and 6, refusal 1 where a constructor answers `None`, the number of a refused `new`, and the matcher.
 use std::slice;
 
 use original::twai::{EspTwaiError, EspTwaiFrame, ExtendedId, Id, StandardId, probe};
@@ -11,7 +11,9 @@ use crate::{
     face::{FRAME_LENGTH, Face},
 };
 
+mod decisions;
 pub mod filters;
+mod matcher;
 
 pub const DRIVER: Face = Face {
     standard_id_new,
@@ -30,6 +32,10 @@ pub const DRIVER: Face = Face {
     data,
     as_slice,
     filters: filters::FILTERS,
+    matcher_accepts: matcher::matcher_accepts,
+    transmit: decisions::transmit,
+    poll: decisions::poll,
+    receive: decisions::receive,
 };
 
 extern "C" fn standard_id_new(raw: u16) -> Answer {

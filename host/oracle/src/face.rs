@@ -43,4 +43,14 @@ pub struct Face {
     pub data: Copier,
     pub as_slice: Copier,
     pub filters: filters::Filters,
+    pub matcher_accepts: unsafe extern "C" fn(
+        kind: u8,
+        registers: *const u8,
+        registers_length: usize,
+        frame: *const u8,
+        frame_length: usize,
+    ) -> Answer,
+    pub transmit: unsafe extern "C" fn(status: u32, error_passive: bool) -> Answer,
+    pub poll: unsafe extern "C" fn(status: u32, error_passive: bool, in_flight: bool) -> Answer,
+    pub receive: unsafe extern "C" fn(status: u32) -> Answer,
 }

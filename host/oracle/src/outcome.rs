@@ -1,11 +1,11 @@
 //! What one side does with a case: its answers, and every byte of what it was lent.
 use crate::{
     answer::Answer,
-    case::{Build, Case, Constructor, Read},
+    case::{Build, Case, Constructor, Decision, Match, Read},
     face::Face,
 };
 
-mod filters;
+pub mod filters;
 
 /// What every lent byte holds before a call.
 const FILL: u8 = 0xA5;
@@ -18,6 +18,8 @@ pub enum Outcome {
     Built(Lending),
     Compiled(Lending),
     Read(Readings),
+    Matched(Answer),
+    Decided(Answer),
 }
 
 #[derive(Debug, PartialEq, Eq)]
@@ -53,16 +55,28 @@ impl Outcome {
             Case::CodeMask(case) => Outcome::Compiled(Lending::of(case.room, |registers| {
                 filters::by_code_mask(&face.filters, case, registers)
             })),
+            Case::Match(Match { kind, registers, frame, .. }) => Outcome::Matched(unsafe {
+                (face.matcher_accepts)(*kind, registers.as_ptr(), registers.len(), frame.as_ptr(), frame.len())
+            }),
+            Case::Decide(decision) => Outcome::Decided(decided(face, *decision)),
         }
     }
 
     /// Whether each refusal left what was lent as it was.
     pub fn refusals_write_nothing(&self) -> bool {
         match self {
-            Outcome::Number(_) => true,
+            Outcome::Number(_) | Outcome::Matched(_) | Outcome::Decided(_) => true,
             Outcome::Built(lending) | Outcome::Compiled(lending) => lending.refusal_writes_nothing(),
             Outcome::Read(readings) => readings.data.refusal_writes_nothing() && readings.used.refusal_writes_nothing(),
         }
+    }
+}
+
+fn decided(face: &Face, decision: Decision) -> Answer {
+    match decision {
+        Decision::Transmit { status, error_passive } => unsafe { (face.transmit)(status, error_passive) },
+        Decision::Poll { status, error_passive, in_flight } => unsafe { (face.poll)(status, error_passive, in_flight) },
+        Decision::Receive { status } => unsafe { (face.receive)(status) },
     }
 }
 

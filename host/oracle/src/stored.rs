@@ -1,7 +1,7 @@
 //! Answers as lines of text: a letter, then columns of lower-case hexadecimal digits.
 use crate::{
     answer::Answer,
-    case::{Build, Case, CodeMask, Constructor, Patterns, Read},
+    case::{Build, Case, CodeMask, Constructor, Decision, Match, Patterns, Read},
     compiler::Compiler,
     face::{FRAME_LENGTH, filters::REGISTERS_LENGTH},
     outcome::{Lending, Outcome, Readings},
@@ -25,6 +25,11 @@ pub const LEGEND: &str = "\
 #   of these 13 bytes; USED is how many of them as_slice gives
 # p KIND(1), for each pattern LENGTH(1) BYTES(LENGTH), NUMBER VALUE REGISTERS(8): new, of the compiler KIND
 # c KIND(1), for each argument its number (bool, u8: 1; u16: 2; u32: 4), NUMBER VALUE REGISTERS(8): new_from_code_mask
+# a FILTER(1) REGISTERS(8) FRAME(13) NUMBER VALUE: matcher_accepts, where the registers and the frame are given; FILTER
+#   is the kind byte, 0 for single, 1 for dual. The driver has no matcher: these are answers of the model in
+#   host/oracle/src/matcher.rs.
+# d WHICH(1) STATUS(4) PASSIVE(1) FLIGHT(1) NUMBER VALUE: transmit where WHICH is 0, poll 1, receive 2; PASSIVE is 1
+#   where the controller is error-passive, FLIGHT where the frame is in flight before the poll; 0 where not asked for
 ";
 
 /// The line for a case and what came of it; none for an outcome of another kind than the case.
@@ -37,6 +42,8 @@ pub fn line(case: &Case, outcome: &Outcome) -> Option<String> {
         (Case::Read(read), Outcome::Read(readings)) => read_columns(read, readings),
         (Case::Patterns(case), Outcome::Compiled(lending)) => patterns_columns(case, lending),
         (Case::CodeMask(case), Outcome::Compiled(lending)) => code_mask_columns(case, lending),
+        (Case::Match(case), Outcome::Matched(answer)) => match_columns(case, answer),
+        (Case::Decide(decision), Outcome::Decided(answer)) => decision_columns(*decision, answer),
         _ => return None,
     };
     Some(columns.join(" ").trim_end().to_string())
@@ -102,6 +109,22 @@ fn filter_columns(
     columns.extend(answer_columns(&lending.answer));
     columns.push(hex_of_bytes(&lending.lent[..REGISTERS_LENGTH]));
     columns
+}
+
+fn match_columns(case: &Match, answer: &Answer) -> Vec<String> {
+    let given = [hex(u64::from(case.kind), 1), hex_of_bytes(&case.registers), hex_of_bytes(&case.frame)];
+    ["a".to_string()].into_iter().chain(given).chain(answer_columns(answer)).collect()
+}
+
+fn decision_columns(decision: Decision, answer: &Answer) -> Vec<String> {
+    let (which, status, error_passive, in_flight) = match decision {
+        Decision::Transmit { status, error_passive } => (0, status, error_passive, false),
+        Decision::Poll { status, error_passive, in_flight } => (1, status, error_passive, in_flight),
+        Decision::Receive { status } => (2, status, false, false),
+    };
+    let given =
+        [hex(which, 1), hex(u64::from(status), 4), hex(u64::from(error_passive), 1), hex(u64::from(in_flight), 1)];
+    ["d".to_string()].into_iter().chain(given).chain(answer_columns(answer)).collect()
 }
 
 fn answer_columns(answer: &Answer) -> [String; 2] {

@@ -1,19 +1,19 @@
 //! compare COUNT [changed]: gives the driver and the library the same cases, COUNT random ones of each kind among
-//! them, and stops at the first difference. `changed`: the driver is a wrong copy on purpose.
+//! them, and stops at the first difference. `changed`: the driver, or the model of the matcher that it lacks, is a wrong
+//! copy on purpose.
 use std::{collections::BTreeMap, hint::black_box, process::exit};
 
-use compare::library::LIBRARY;
+use compare::{DIFFERENT, UNUSABLE, grouped, library::LIBRARY};
 use oracle::{
-    case::Case,
+    answer::Answer,
+    case::{Case, Decision, Match},
     cases::{self, OUT_LENGTH},
+    compiler::Compiler,
     driver::{DRIVER, filters::silence_refusals},
     face::{FRAME_LENGTH, filters::REGISTERS_LENGTH},
     outcome::Outcome,
 };
 use original::source;
-
-const DIFFERENT: i32 = 1;
-const UNUSABLE: i32 = 2;
 
 fn main() {
     let arguments: Vec<String> = std::env::args().skip(1).collect();
@@ -26,7 +26,7 @@ fn main() {
     }
     silence_refusals();
     let mut tally = Tally::default();
-    cases::all(count, &mut |case| tally.compare(case));
+    cases::all(count, &[&DRIVER.filters, &LIBRARY.filters], &mut |case| tally.compare(case));
     tally.print();
 }
 
@@ -40,12 +40,17 @@ fn check_source() {
     }
 }
 
-/// How many cases of each kind, and how many frames and filters by the number of the answer.
+/// How many cases of each kind, and how many frames and filters by the number of the answer; and how many frames were
+/// matched by each row of positions, and accepted; and how many decisions by answer and command.
 #[derive(Default)]
 struct Tally {
     kinds: BTreeMap<&'static str, u64>,
     built: BTreeMap<u32, u64>,
     compiled: BTreeMap<u32, u64>,
+    refused_matches: BTreeMap<u32, u64>,
+    matched: [u64; Compiler::ALL.len()],
+    accepted: [u64; Compiler::ALL.len()],
+    decided: BTreeMap<(&'static str, u64), u64>,
 }
 
 impl Tally {
@@ -55,6 +60,11 @@ impl Tally {
         if driver != library {
             stop(&before, &format!("the Rust: {driver:02x?}\nours:     {library:02x?}"));
         }
+        if let Some(verdict) = by_characters(&case)
+            && library != Outcome::Matched(Answer::gives(u64::from(verdict)))
+        {
+            stop(&before, &format!("by the characters: {verdict}\nours: {library:02x?}"));
+        }
         if !library.refusals_write_nothing() {
             stop(&before, &format!("a refusal wrote: {library:02x?}"));
         }
@@ -63,17 +73,58 @@ impl Tally {
         }
         *self.kinds.entry(kind(&case)).or_default() += 1;
         match library {
+            Outcome::Matched(answer) => self.count_match(&case, answer),
             Outcome::Built(lending) => *self.built.entry(lending.answer.number).or_default() += 1,
             Outcome::Compiled(lending) => *self.compiled.entry(lending.answer.number).or_default() += 1,
+            Outcome::Decided(answer) => self.count_decision(&case, answer),
             Outcome::Number(_) | Outcome::Read(_) => {}
         }
+    }
+
+    fn count_match(&mut self, case: &Case, answer: Answer) {
+        match case {
+            Case::Match(Match { kind, frame, .. }) if !answer.is_refusal() => {
+                let row = Compiler::of(*kind == 1, frame[0] >= 0x80) as usize;
+                self.matched[row] += 1;
+                self.accepted[row] += answer.value;
+            }
+            _ => *self.refused_matches.entry(answer.number).or_default() += 1,
+        }
+    }
+
+    fn count_decision(&mut self, case: &Case, answer: Answer) {
+        *self.decided.entry((kind(case), answer.value % 0x1_0000)).or_default() += 1;
+    }
+
+    fn decisions(&self) -> String {
+        let count = |((kind, value), count): (&(&str, u64), &u64)| {
+            format!("{kind} {}/{}: {}", value % 256, value / 256, grouped(*count))
+        };
+        self.decided.iter().map(count).collect::<Vec<_>>().join(", ")
+    }
+
+    fn by_row(&self) -> String {
+        let rows = ["single standard", "single extended", "dual standard", "dual extended"].iter().enumerate();
+        let counts = |row: usize| (grouped(self.accepted[row]), grouped(self.matched[row]));
+        let rows = rows.map(|(row, name)| (name, counts(row)));
+        rows.map(|(name, (accepted, all))| format!("{name} {accepted} of {all}")).collect::<Vec<_>>().join(", ")
     }
 
     fn print(&self) {
         let kinds: Vec<String> = self.kinds.iter().map(|(kind, count)| format!("{} {kind}", grouped(*count))).collect();
         println!("answers to building, by number: {}", by_number(&self.built));
         println!("answers to compiling filters, by number: {}", by_number(&self.compiled));
+        println!("frames accepted, by row of positions: {}", self.by_row());
+        println!("matching refused, by number: {}", by_number(&self.refused_matches));
+        println!("decisions, by answer/command: {}", self.decisions());
         println!("compared: {}; 0 differ", kinds.join(", "));
+    }
+}
+
+fn by_characters(case: &Case) -> Option<bool> {
+    match case {
+        Case::Match(case) => case.by_characters,
+        _ => None,
     }
 }
 
@@ -96,13 +147,15 @@ fn kind(case: &Case) -> &'static str {
         }
         Case::Patterns(case) if case.room == REGISTERS_LENGTH => "filters by patterns",
         Case::CodeMask(case) if case.room == REGISTERS_LENGTH => "filters by code and mask",
-        Case::Build(_) | Case::Read(_) | Case::Patterns(_) | Case::CodeMask(_) => "lent slices of other lengths",
+        Case::Match(Match { by_characters: Some(_), .. }) => "frames matched, and by their characters",
+        Case::Match(case) if case.registers.len() == REGISTERS_LENGTH && case.frame.len() == FRAME_LENGTH => {
+            "frames matched or refused"
+        }
+        Case::Decide(Decision::Transmit { .. }) => "transmits",
+        Case::Decide(Decision::Poll { .. }) => "polls",
+        Case::Decide(Decision::Receive { .. }) => "receives",
+        Case::Build(_) | Case::Read(_) | Case::Patterns(_) | Case::CodeMask(_) | Case::Match(_) => {
+            "lent slices of other lengths"
+        }
     }
-}
-
-/// With a comma before each three digits.
-fn grouped(number: u64) -> String {
-    let digits = number.to_string();
-    let groups: Vec<&str> = digits.as_bytes().rchunks(3).rev().map(|group| str::from_utf8(group).unwrap()).collect();
-    groups.join(",")
 }

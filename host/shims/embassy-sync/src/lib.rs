@@ -63,6 +63,11 @@ pub mod channel {
             Poll::Pending
         }
 
+        /// The messages that wait, the oldest first.
+        pub fn waiting(&self) -> Vec<T> {
+            self.state().queue.iter().copied().collect()
+        }
+
         /// The messages that found the channel full since this was last asked.
         pub fn take_lost(&self) -> Vec<T> {
             std::mem::take(&mut self.state().lost)

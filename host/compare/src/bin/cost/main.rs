@@ -1,6 +1,7 @@
 //! cost list: the names of what can be counted. cost ROW SIDE TIMES: runs row number ROW (from 0), TIMES times.
 //! SIDE: `driver` and `library` through the face of docs/ABI.md, `bare` for the driver's own function, `nothing` for
-//! the loop alone. The cost of one run is a difference of two instruction counts (see the script host/cost).
+//! the loop alone. Plain Rust stands in for the driver where it has no such function.
+//! The cost of one run is a difference of two instruction counts (see the script host/cost).
 use std::hint::black_box;
 
 use compare::library::LIBRARY;
@@ -12,6 +13,7 @@ use oracle::{
 use original::twai::{EspTwaiFrame, probe};
 
 mod filters;
+mod matcher;
 
 struct Row {
     name: &'static str,
@@ -88,16 +90,35 @@ fn main() {
 }
 
 fn names() -> impl Iterator<Item = &'static str> {
-    ROWS.iter().map(|row| row.name).chain(filters::ROWS.iter().map(|row| row.name))
+    let frames = ROWS.iter().map(|row| row.name);
+    frames.chain(filters::ROWS.iter().map(|row| row.name)).chain(matcher::ROWS.iter().map(|row| row.name))
 }
 
+/// Each of the three that it calls is compiled apart: a row more in one leaves the counts of the others as they are.
 fn run(row: usize, side: &str, times: u64) {
-    match ROWS.get(row) {
-        Some(row) => run_frames(row, side, times),
-        None => run_filters(&filters::ROWS[row - ROWS.len()], side, times),
+    let (filters, matches) = (ROWS.len(), ROWS.len() + filters::ROWS.len());
+    if row < filters {
+        run_frames(&ROWS[row], side, times);
+    } else if row < matches {
+        run_filters(&filters::ROWS[row - filters], side, times);
+    } else {
+        run_matcher(&matcher::ROWS[row - matches], side, times);
     }
 }
 
+#[inline(never)]
+fn run_matcher(row: &matcher::Row, side: &str, times: u64) {
+    match side {
+        "driver" => matcher::by_plain_face(row, times),
+        "library" => matcher::by_library(row, times),
+        "bare" => matcher::bare(row, times),
+        _ => repeat(times, || {
+            black_box(row);
+        }),
+    }
+}
+
+#[inline(never)]
 fn run_filters(row: &filters::Row, side: &str, times: u64) {
     match side {
         "driver" => filters::by_face(&black_box(&DRIVER).filters, row, times),
@@ -109,6 +130,7 @@ fn run_filters(row: &filters::Row, side: &str, times: u64) {
     }
 }
 
+#[inline(never)]
 fn run_frames(row: &Row, side: &str, times: u64) {
     match side {
         "driver" => by_face(black_box(&DRIVER), row, times),
