@@ -1,6 +1,6 @@
 -- The answers' lengths, which the calls alone decide. Assumes nothing.
 use Prim.{Unit}
-use Prim.Native.Nat.{ℕ, _+_, _/_, _%_, _^_, _<_}
+use Prim.Native.Nat.{ℕ, _+_, _%_, _<_}
 use mathlib.Core.Path.{_≡_, refl, ap₂, _∙_}
 use mathlib.Core.Bool.{Bool, true, false, cond}
 use mathlib.Core.List.{List, [], _∷_, _++_}
@@ -9,7 +9,6 @@ use lib.ListN.{length, getD, length-append}
 use native.Mathlib.Omega.{arith}
 use borrow.Author.Tests.{ne-eqb}
 use Rattle.laws.specs.Said.{Said, refuses, gives}
-use Rattle.laws.specs.Row.{bytes, unpack}
 use Rattle.laws.specs.Tabulate.{part}
 use Rattle.refusals.specs.Table.{numberOf}
 use Rattle.refusals.specs.declared.Refusal.{Refusal}
@@ -31,16 +30,6 @@ use Rattle.box_script.specs.State.{wordsAt, wordsBytes, entryBytes, reco
 use Rattle.box_script.specs.Format.{Asked, calls, loads, tells, callAt}
 use Rattle.box_script.specs.Answers.{arrivalBytes, takeBytes, startBytes, stepBytes, callAnswer, answerOf, nextOf, answersOf, answerLength}
 use Rattle.box_script.proofs.Filled.{joined-long}
-
--- a word's four bytes, high byte first
-pub word-bytes : (w a b c d : ℕ) → w < 2 ^ 32 → a ≡ w / 2 ^ 24 % 256 → b ≡ w / 2 ^ 16 % 256 → c ≡ w / 2 ^ 8 % 256 → d ≡ w % 256
-    → a ∷ b ∷ c ∷ d ∷ [] ≡ unpack (bytes 4) w
-word-bytes w a b c d h ea eb ec ed =
-    let pa : a ≡ w / 16777216 = omega arith in
-    let pb : b ≡ w % 16777216 / 65536 = omega arith in
-    let pc : c ≡ w % 16777216 % 65536 / 256 = omega arith in
-    let pd : d ≡ w % 16777216 % 65536 % 256 / 1 = omega arith in
-    rw (pa, pb, pc, pd)
 
 -- a refusal's number is a byte
 pub number-small : (f : Refusal) → numberOf f < 256

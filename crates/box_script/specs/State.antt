@@ -61,7 +61,7 @@ joined (suc n) text = text 0 ++ joined n (λ i. text (suc i))
 
 -- the FIFO: 64 entries, then head, count and weight
 unfoldable pub entriesAt : List ℕ → ℕ → List Entry
-entriesAt s at = tabulate 64 (λ i. entryAt s (at + 14 * i))
+entriesAt s at = tabulate F.entryLimit (λ i. entryAt s (at + 14 * i))
 
 abbrev pub fifoAt : List ℕ → ℕ → Fifo
 fifoAt s at =
@@ -73,20 +73,20 @@ fifoAt s at =
     }
 
 unfoldable pub entriesBytes : List Entry → List ℕ
-entriesBytes es = joined 64 (λ i. entryBytes (getD es i F.nowhere))
+entriesBytes es = joined F.entryLimit (λ i. entryBytes (getD es i F.nowhere))
 
 abbrev pub fifoBytes : Fifo → List ℕ
 fifoBytes f = entriesBytes (f .entries) ++ (f .head % 256 ∷ f .count % 256 ∷ f .weight % 256 ∷ [])
 
 -- the queue: 32 places, then head and count
 unfoldable pub placesAt : List ℕ → ℕ → List Record
-placesAt s at = tabulate 32 (λ i. recordAt s (at + 14 * i))
+placesAt s at = tabulate Q.queueLimit (λ i. recordAt s (at + 14 * i))
 
 abbrev pub queueAt : List ℕ → ℕ → Queue
 queueAt s at = record { places = placesAt s at; head = getD s (at + 448) 0; count = getD s (at + 449) 0 }
 
 unfoldable pub placesBytes : List Record → List ℕ
-placesBytes xs = joined 32 (λ i. recordBytes (getD xs i Q.nowhere))
+placesBytes xs = joined Q.queueLimit (λ i. recordBytes (getD xs i Q.nowhere))
 
 abbrev pub queueBytes : Queue → List ℕ
 queueBytes q = placesBytes (q .places) ++ (q .head % 256 ∷ q .count % 256 ∷ [])

@@ -2,11 +2,7 @@
 -- Source: ESP32-C3 manual, TWAI chapter, status register; the outline, "Decisions".
 use Prim.Native.Nat.{ℕ}
 use mathlib.Core.Bool.{Bool}
-use lib.Dec.{eqb}
-use Rattle.laws.specs.Bits.{bitAt}
-
-abbrev pub isSet : ℕ → ℕ → Bool
-isSet status position = eqb (bitAt status position) 1
+use Rattle.laws.specs.Bits.{isSet}
 
 abbrev pub receiveReady : ℕ → Bool
 receiveReady status = isSet status 0

@@ -1,7 +1,7 @@
 // Decisions: what transmit, the transmit poll and receive answer to a status word, and the command that goes with the answer.
 ghost use mathlib.Core.Path.{_≡_};
 ghost use Prim.Native.Nat.{_<_};
-ghost use Rattle.decisions.specs.Status.{isSet};
+ghost use Rattle.laws.specs.Bits.{isSet};
 ghost use Rattle.decisions.specs.Answers.{commandSaid, transmitSaid, pollSaid, receiveSaid, transmissionSaid, pollingSaid, receptionSaid};
 ghost use Rattle.decisions.specs.Decisions.{transmitOf, pollOf, receiveOf};
 

@@ -1,5 +1,5 @@
 -- Bounds on weights, what the FIFO's test says, and what an arrival and a release leave: the rules, the entries, the front. Assumes nothing.
-use Prim.Native.Nat.{ℕ, zero, suc, _≤_, _<_, _+_, _-_, _%_, min}
+use Prim.Native.Nat.{ℕ, zero, suc, _≤_, _<_, _+_, _-_, _%_}
 use mathlib.Core.Path.{_≡_, refl, sym, ap, _∙_}
 use mathlib.Core.Bool.{Bool, true, false, cond}
 use mathlib.Core.List.{List, [], _∷_, _++_}
@@ -11,7 +11,8 @@ use native.Mathlib.Omega.{arith}
 use borrow.Author.Tests.{ltb-true, ltb-false, leb-true, leb-false, eqb-true, lt-ltb, le-leb, eq-eqb}
 use Rattle.laws.proofs.Bools.{both-true}
 use Rattle.laws.proofs.Tabulate.{tabulate-ext, tabulate-snoc, tabulate-cons}
-use Rattle.frames.specs.Buffer.{extendedOf, remoteOf, codeOf, dataLengthOf}
+use Rattle.frames.specs.Buffer.{extendedOf, dataLengthOf}
+use Rattle.frames.proofs.Buffer.{data-bound}
 use Rattle.fifo.specs.declared.Entry.{Entry}
 use Rattle.fifo.specs.declared.Fifo.{Fifo}
 use Rattle.fifo.specs.Ring.{entryLimit, weightLimit, weightOf, wholeEntry, markEntry, sumTo, sumOf, fifoOk, entryAt, frontOf, entriesOf, released, pushed, nowhere, arriveOf}
@@ -20,15 +21,11 @@ cond-le : (b : Bool) (x y k : ℕ) → x ≤ k → y ≤ k → cond b x y ≤ k
 cond-le true x y k hx hy = hx
 cond-le false x y k hx hy = hy
 
-pub data-length-le : (frame : List ℕ) → dataLengthOf frame ≤ 8
-unfolding dataLengthOf
-data-length-le frame = cond-le (remoteOf frame) 0 (min (codeOf frame) 8) 8 (omega arith) (omega arith)
-
 pub weight-le : (e : Entry) → weightOf e ≤ 13
 unfolding weightOf
 weight-le e =
     cond-le (e .mark) 0 (cond (extendedOf (e .bytes)) 5 3 + dataLengthOf (e .bytes)) 13 (omega arith)
-    (omega (arith, cond-le (extendedOf (e .bytes)) 5 3 5 (omega arith) (omega arith), data-length-le (e .bytes)))
+    (omega (arith, cond-le (extendedOf (e .bytes)) 5 3 5 (omega arith) (omega arith), data-bound (e .bytes)))
 
 pub mark-weight : weightOf markEntry ≡ 0
 unfolding weightOf

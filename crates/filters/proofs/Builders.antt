@@ -111,11 +111,11 @@ patterns-tidy ps cs apart long k z = elim (where-is k ps) [ inl (i, h, p) ↦ fo
         ap (bitAt (codeOf ps cs)) p ∙ at one one-lt 0 ps cs apart i h hc (bit-zero (getD ps i 0)) ∙ one-spared (getD cs i 0) m
 
 -- ---- every filter's builder from code and mask
-laid-small : (filter : Filter) (values : List ℕ) → laidOf (fieldsOf filter) values < 2 ^ 32
+pub laid-small : (filter : Filter) (values : List ℕ) → laidOf (fieldsOf filter) values < 2 ^ 32
 unfolding laidOf
 laid-small filter values = word-lt one one-lt 0 (rowOf filter) (writtenIn (fieldsOf filter) values) (row-within filter) (omega arith)
 
-written-whole : (fields : List (List ℕ)) (values : List ℕ) → length values ≡ length fields → length (writtenIn fields values) ≡ length (joined fields)
+pub written-whole : (fields : List (List ℕ)) (values : List ℕ) → length values ≡ length fields → length (writtenIn fields values) ≡ length (joined fields)
 written-whole [] values h = refl
 written-whole (f ∷ fields) [] h = absurd (omega arith)
 written-whole (f ∷ fields) (v ∷ values) h =

@@ -5,21 +5,12 @@ use mathlib.Core.Path.{_≡_, sym, ap, ap₂, _∙_}
 use mathlib.Core.List.{[], _∷_, _++_}
 use native.Mathlib.Decide.{decLt}
 use native.Mathlib.Omega.{arith}
-use Rattle.laws.specs.Row.{unpack, bytes}
+use Rattle.laws.specs.Row.{bytes}
 use Rattle.laws.specs.Bits.{bitAt}
-use Rattle.laws.proofs.Row.{pack-unpack}
+use Rattle.laws.proofs.Row.{pack-unpack, four-bytes}
 use Rattle.laws.proofs.Bits.{bit-lt, bit-not, bit-past}
 use Rattle.filters.specs.Registers.{registersOf, codeIn, maskIn}
 use Rattle.filters.specs.Meaning.{Agree, Accepts}
-
-pub four-bytes : (w a b c d : ℕ) → w < 2 ^ 32 → a ≡ w / 2 ^ 24 % 256 → b ≡ w / 2 ^ 16 % 256 → c ≡ w / 2 ^ 8 % 256 → d ≡ w % 256
-    → a ∷ b ∷ c ∷ d ∷ [] ≡ unpack (bytes 4) w
-four-bytes w a b c d h ea eb ec ed =
-    let pa : a ≡ w / 16777216 = omega arith in
-    let pb : b ≡ w % 16777216 / 65536 = omega arith in
-    let pc : c ≡ w % 16777216 % 65536 / 256 = omega arith in
-    let pd : d ≡ w % 16777216 % 65536 % 256 / 1 = omega arith in
-    rw (pa, pb, pc, pd)
 
 -- the eight bytes of one word that has both
 pub eight-bytes : (code mask w a b c d e f g h : ℕ) → code < 2 ^ 32 → mask < 2 ^ 32 → w ≡ code * 2 ^ 32 + 4294967295 - mask

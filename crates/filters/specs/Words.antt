@@ -2,7 +2,7 @@
 -- Source: the outline, "Registers"; the pattern characters `0`, `1` and `x` of the Rust's filters.
 use Prim.Native.Nat.{ℕ, zero, suc, _+_, _*_, _^_, min}
 use mathlib.Core.Bool.{Bool, cond, _||_}
-use mathlib.Core.List.{List, [], _∷_, _++_}
+use mathlib.Core.List.{List, [], _∷_}
 use lib.Bits.{bitOr}
 use lib.Dec.{eqb}
 use lib.ListN.{length}
@@ -38,10 +38,13 @@ written zero v = []
 written (suc n) v = (48 + bitAt v n) ∷ written n v
 
 -- each field's number, written in as many characters as the field has positions
+abbrev pub writtenEach : List (List ℕ) → List ℕ → List (List ℕ)
+writtenEach [] values = []
+writtenEach (f ∷ fields) [] = []
+writtenEach (f ∷ fields) (v ∷ values) = written (length f) v ∷ writtenEach fields values
+
 abbrev pub writtenIn : List (List ℕ) → List ℕ → List ℕ
-writtenIn [] vs = []
-writtenIn (f ∷ fs) [] = []
-writtenIn (f ∷ fs) (v ∷ vs) = written (length f) v ++ writtenIn fs vs
+writtenIn fields values = joined (writtenEach fields values)
 
 -- the word that has each field's bits at the field's positions
 unfoldable pub laidOf : List (List ℕ) → List ℕ → ℕ

@@ -7,7 +7,7 @@ use lib.ListN.{length}
 use lib.Pow.{pow-pos, pow-add, shr-lt, split, high, low}
 use native.Mathlib.Nat.{mod-lt, mul-le-mul-right, suc-mul}
 use native.Mathlib.Omega.{arith}
-use Rattle.laws.specs.Row.{width, pack, unpack, regroup, Fit, none, field}
+use Rattle.laws.specs.Row.{width, pack, unpack, bytes, regroup, Fit, none, field}
 
 -- a value above a part that fits below it
 joined-below : (w k v n : ℕ) → v < 2 ^ w → n < 2 ^ k → v * 2 ^ k + n < 2 ^ (w + k)
@@ -42,3 +42,13 @@ regroup-fits from to values same fit = unpack-fits to (pack from values) (rw (�
 pub regroup-back : (from to values : List ℕ) → width from ≡ width to → Fit from values → regroup to from (regroup from to values) ≡ values
 regroup-back from to values same fit =
     ap (unpack from) (pack-unpack to (pack from values) (rw (← same) (pack-below fit))) ∙ unpack-pack fit
+
+-- a word's four bytes, high byte first
+pub four-bytes : (w a b c d : ℕ) → w < 2 ^ 32 → a ≡ w / 2 ^ 24 % 256 → b ≡ w / 2 ^ 16 % 256 → c ≡ w / 2 ^ 8 % 256 → d ≡ w % 256
+    → a ∷ b ∷ c ∷ d ∷ [] ≡ unpack (bytes 4) w
+four-bytes w a b c d h ea eb ec ed =
+    let pa : a ≡ w / 16777216 = omega arith in
+    let pb : b ≡ w % 16777216 / 65536 = omega arith in
+    let pc : c ≡ w % 16777216 % 65536 / 256 = omega arith in
+    let pd : d ≡ w % 16777216 % 65536 % 256 / 1 = omega arith in
+    rw (pa, pb, pc, pd)

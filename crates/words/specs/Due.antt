@@ -3,14 +3,10 @@
 use Prim.Native.Nat.{ℕ, _+_, _-_, _^_}
 use mathlib.Core.Bool.{Bool, _&&_, _||_}
 use lib.Bits.{bitAnd, bitOr}
-use lib.Dec.{eqb}
-use Rattle.laws.specs.Bits.{bitAt}
+use Rattle.laws.specs.Bits.{isSet}
 use Rattle.laws.specs.Row.{bit}
 use Rattle.words.specs.declared.Words.{Words}
 use Rattle.words.specs.declared.Finished.{Finished}
-
-abbrev pub isSet : ℕ → ℕ → Bool
-isSet word at = eqb (bitAt word at) 1
 
 -- interrupt bit 0, receive
 unfoldable pub receiveDue : Words → Bool

@@ -2,7 +2,8 @@
 ghost use mathlib.Core.Path.{_≡_};
 ghost use Prim.Native.Nat.{_<_};
 ghost use Rattle.laws.specs.Row.{bit};
-ghost use Rattle.words.specs.Due.{isSet, receiveDue, noticeDue, errorDue, finishOf};
+ghost use Rattle.laws.specs.Bits.{isSet};
+ghost use Rattle.words.specs.Due.{receiveDue, noticeDue, errorDue, finishOf};
 
 // Interrupt bits by the manual.
 const RECEIVE: u32 = 0;

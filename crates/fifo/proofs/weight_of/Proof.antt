@@ -1,8 +1,8 @@
 -- `fifo::weight_of` meets its contract: a mark weighs nothing, and a whole entry by its format and its data. Assumes nothing.
 use native.Mathlib.Omega.{arith}
 use borrow.Author.Needs.{needs}
+use Rattle.frames.proofs.Buffer.{data-bound}
 use Rattle.fifo.specs.Ring.{weightOf}
-use Rattle.fifo.proofs.Ring.{data-length-le}
 use Rattle.fifo.proofs.weight_of.Statement.{statement}
 use Rattle.fifo.proofs.weight_of.Tie as tie
 
@@ -17,14 +17,14 @@ is-extended-format-requires : tie.Need-is-extended-format-requires
 is-extended-format-requires c κs = search needs
 
 add-result : tie.Need-add-result
-add-result c = omega (arith, c .before .before .before .data-length .ensures, data-length-le (c .before .before .before .before .before .before .before .args .entry .bytes))
+add-result c = omega (arith, c .before .before .before .data-length .ensures, data-bound (c .before .before .before .before .before .before .before .args .entry .bytes))
 
 returns-2 : tie.Need-returns-2
 unfolding weightOf
 returns-2 c = simp (c .before .before .before .before .before .before .if1 .left, ← c .before .is-extended-format .ensures, c .if2 .taken, c .before .before .before .data-length .ensures)
 
 add-result-2 : tie.Need-add-result-2
-add-result-2 c = omega (arith, c .before .before .before .data-length .ensures, data-length-le (c .before .before .before .before .before .before .before .args .entry .bytes))
+add-result-2 c = omega (arith, c .before .before .before .data-length .ensures, data-bound (c .before .before .before .before .before .before .before .args .entry .bytes))
 
 returns-3 : tie.Need-returns-3
 unfolding weightOf
