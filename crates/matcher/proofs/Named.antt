@@ -1,11 +1,11 @@
 -- One word compare is the agreement at each position that it names: a bit of the difference is left exactly where a named position is compared and the
 -- code has not the word's bit. Assumes nothing.
-use Prim.Native.Nat.{ℕ, zero, suc, _+_, _-_, _^_, _<_, min}
+use Prim.Native.Nat.{ℕ, zero, suc, _+_, _-_, _*_, _/_, _%_, _^_, _<_, min}
 use mathlib.Core.Path.{_≡_, refl, sym, ap, ap₂, _∙_}
 use mathlib.Core.Logic.{_≢_, inl, inr}
 use mathlib.Core.Bool.{Bool, true, false, cond, _&&_}
 use mathlib.Core.List.{List, [], _∷_, map}
-use lib.Bits.{bitAnd, bitXor, differ, and-lt, xor-lt}
+use lib.Bits.{bitAnd, bitXor, differ, and-lt, xor-lt, and-block, and-zero-l}
 use lib.Dec.{T, eqb}
 use lib.ListN.{length, getD, replicate, length-replicate, getD-replicate}
 use native.Mathlib.Nat.{not-suc-le-zero, le-of-suc-le-suc}
@@ -13,7 +13,7 @@ use native.Mathlib.Omega.{arith}
 use borrow.Author.Tests.{eq-eqb, ne-eqb, eqb-true, eqb-false}
 use Rattle.laws.specs.Bits.{bitAt}
 use Rattle.laws.proofs.Bits.{bit-lt, bit-zero, bit-and, bit-xor, bit-not, bit-ext, differ-zero, differ-same}
-use Rattle.laws.proofs.Bools.{same-test, and-yes}
+use Rattle.laws.proofs.Bools.{same-test, and-yes, both-true}
 use Rattle.filters.specs.Words.{one}
 use Rattle.filters.specs.Registers.{codeIn, maskIn}
 use Rattle.filters.specs.Meaning.{distinct, within, characterIn, charactersIn}
@@ -22,6 +22,19 @@ use Rattle.filters.proofs.Table.{within-at}
 use Rattle.filters.proofs.Agree.{off, word-lt, where-is, code-at}
 use Rattle.matcher.specs.Match.{fits, allFit}
 use Rattle.matcher.specs.Words.{onesAt, missOf}
+
+-- ---- two words in one of 64 bits: the complement of the whole has that of the lower word, and nothing above it is left
+miss-in : (x r : ℕ) → x < 2 ^ 32 → r < 2 ^ 64 → bitAnd x (2 ^ 64 - 1 - r) ≡ bitAnd x (2 ^ 32 - 1 - r % 2 ^ 32)
+miss-in x r hx hr =
+    let apart : 2 ^ 64 - 1 - r ≡ (2 ^ 32 - 1 - r / 2 ^ 32) * 2 ^ 32 + (2 ^ 32 - 1 - r % 2 ^ 32) = omega arith in
+    let own : x ≡ 0 * 2 ^ 32 + x = omega arith in
+    let none : bitAnd 0 (2 ^ 32 - 1 - r / 2 ^ 32) * 2 ^ 32 + bitAnd x (2 ^ 32 - 1 - r % 2 ^ 32) ≡ bitAnd x (2 ^ 32 - 1 - r % 2 ^ 32) = omega (arith, and-zero-l (2 ^ 32 - 1 - r / 2 ^ 32)) in
+    ap₂ bitAnd own apart ∙ and-block 32 0 (2 ^ 32 - 1 - r / 2 ^ 32) x (2 ^ 32 - 1 - r % 2 ^ 32) hx (omega arith) ∙ none
+
+pub miss-both : (r w named : ℕ) → r < 2 ^ 64 → w < 2 ^ 32
+    → bitAnd (bitAnd (bitXor (r / 2 ^ 32) w) (2 ^ 64 - 1 - r)) named ≡ missOf (r / 2 ^ 32) (r % 2 ^ 32) w named
+unfolding missOf
+miss-both r w named hr hw = ap (λ (x : ℕ). bitAnd x named) (miss-in (bitXor (r / 2 ^ 32) w) r (xor-lt 32 (r / 2 ^ 32) w (omega arith) hw) hr)
 
 -- the character that a word shows at a position
 abbrev pub shownAt : ℕ → ℕ → ℕ
@@ -44,14 +57,6 @@ ones-lt : (ps : List ℕ) → T (within ps) → onesAt ps < 2 ^ 32
 unfolding onesAt
 ones-lt ps inside = word-lt one one-lt 0 ps (replicate (length ps) 49) inside (omega arith)
 
-first-test : (a b : Bool) → (a && b) ≡ true → a ≡ true
-first-test true b e = refl
-first-test false b e = e
-
-last-test : (a b : Bool) → (a && b) ≡ true → b ≡ true
-last-test true b e = e
-last-test false b e = absurd (let z : _≡_ {A = ℕ} 0 1 = ap (λ (x : Bool). cond x 1 0) e in omega arith)
-
 module _ (registers : List ℕ) (w : ℕ) where
   abbrev code : ℕ
   code = codeIn registers
@@ -66,8 +71,8 @@ module _ (registers : List ℕ) (w : ℕ) where
   all-at : (ps : List ℕ) → allFit (charactersIn registers ps) (map (shownAt w) ps) ≡ true → (i : ℕ) → i < length ps → ok (getD ps i 0) ≡ true
   unfolding allFit
   all-at [] e i h = absurd (not-suc-le-zero h)
-  all-at (p ∷ ps) e zero h = first-test (ok p) (allFit (charactersIn registers ps) (map (shownAt w) ps)) e
-  all-at (p ∷ ps) e (suc i) h = all-at ps (last-test (ok p) (allFit (charactersIn registers ps) (map (shownAt w) ps)) e) i (le-of-suc-le-suc h)
+  all-at (p ∷ ps) e zero h = both-true (ok p) (allFit (charactersIn registers ps) (map (shownAt w) ps)) e .0
+  all-at (p ∷ ps) e (suc i) h = all-at ps (both-true (ok p) (allFit (charactersIn registers ps) (map (shownAt w) ps)) e .1) i (le-of-suc-le-suc h)
 
   at-all : (ps : List ℕ) → ((i : ℕ) → i < length ps → ok (getD ps i 0) ≡ true) → allFit (charactersIn registers ps) (map (shownAt w) ps) ≡ true
   unfolding allFit

@@ -1,6 +1,6 @@
 -- The word compare of a frame is the definition, position by position: the word that a frame shows has, at the positions of each field, the digits of what the
 -- frame shows there, and the compare asks for just the positions that the half's fields name. Assumes nothing.
-use Prim.Native.Nat.{ℕ, zero, suc, _+_, _^_, _<_}
+use Prim.Native.Nat.{ℕ, zero, suc, _+_, _/_, _%_, _^_, _<_}
 use mathlib.Core.Path.{_≡_, refl, sym, ap, ap₂, subst, _∙_}
 use mathlib.Core.Bool.{Bool, true, false, cond, _||_}
 use mathlib.Core.List.{List, [], _∷_, _++_, map}
@@ -9,20 +9,22 @@ use lib.ListN.{length, getD, take, drop, length-append, length-map}
 use lib.Seq.{ext-getD}
 use native.Mathlib.Nat.{not-suc-le-zero, le-of-suc-le-suc}
 use native.Mathlib.Omega.{arith}
+use borrow.Author.Tests.{ne-eqb}
 use Rattle.laws.specs.Bits.{bitAt}
 use Rattle.laws.specs.Said.{Said, refuses, gives}
 use Rattle.laws.proofs.Bits.{bit-lt}
 use Rattle.filters.specs.Table.{Filter, singleStandard, singleExtended, dualStandard, dualExtended, fieldsOf, rowOf, joined, lengths}
-use Rattle.filters.specs.Words.{one, written, writtenIn, laidOf}
+use Rattle.filters.specs.Words.{one, written, writtenEach, writtenIn, laidOf}
 use Rattle.filters.specs.Registers.{codeIn, maskIn}
 use Rattle.filters.specs.Meaning.{distinct, within, characterIn, charactersIn, patternsIn}
 use Rattle.filters.proofs.Characters.{one-lt}
 use Rattle.filters.proofs.Laid.{one-digit, written-length}
+use Rattle.filters.proofs.Builders.{laid-small, written-whole}
 use Rattle.filters.proofs.Table.{row-distinct, row-within}
 use Rattle.filters.proofs.Agree.{word-lt, code-at}
 use Rattle.filters.proofs.Mapped.{mapped-at, mapped-joined, mapped-take, mapped-drop, apart}
 use Rattle.frames.specs.Buffer.{extendedOf}
-use Rattle.matcher.specs.Match.{rowFor, numbersIn, shownIn, writtenEach, shownBits, allFit, firstFields, fitsEither, acceptsOf}
+use Rattle.matcher.specs.Match.{rowFor, numbersIn, shownIn, shownBits, allFit, firstFields, fitsEither, acceptsOf}
 use Rattle.matcher.specs.Words.{onesAt, missOf, showBy, showOf, agreesOf, compareOf, matchOf}
 use Rattle.matcher.specs.declared.Shown.{Shown}
 use Rattle.matcher.proofs.Named.{shownAt, miss-is}
@@ -47,40 +49,29 @@ digits-written (f ∷ fields) [] = λ i h. absurd (not-suc-le-zero h)
 digits-written (f ∷ fields) (v ∷ values) = digits-before (length f) v (writtenIn fields values) (digits-written fields values)
 
 -- ---- as many numbers as fields
-each-joined : (fields : List (List ℕ)) (values : List ℕ) → joined (writtenEach fields values) ≡ writtenIn fields values
-each-joined [] values = refl
-each-joined (f ∷ fields) [] = refl
-each-joined (f ∷ fields) (v ∷ values) = ap (λ (l : List ℕ). written (length f) v ++ l) (each-joined fields values)
-
 each-lengths : (fields : List (List ℕ)) (values : List ℕ) → length values ≡ length fields → lengths (writtenEach fields values) ≡ lengths fields
 each-lengths [] values h = refl
 each-lengths (f ∷ fields) [] h = absurd (omega arith)
 each-lengths (f ∷ fields) (v ∷ values) h = ap₂ (λ (n : ℕ) (ns : List ℕ). n ∷ ns) (written-length (length f) v) (each-lengths fields values (omega arith))
-
-whole-length : (fields : List (List ℕ)) (values : List ℕ) → length values ≡ length fields → length (writtenIn fields values) ≡ length (joined fields)
-whole-length [] values h = refl
-whole-length (f ∷ fields) [] h = absurd (omega arith)
-whole-length (f ∷ fields) (v ∷ values) h =
-    simp (length-append, written-length, whole-length fields values (omega arith))
 
 -- ---- the word has each field's digits at the field's positions
 module _ (fields : List (List ℕ)) (values : List ℕ) (apart-row : T (distinct (joined fields))) (whole : length values ≡ length fields) where
   place : (i : ℕ) → i < length (joined fields) → shownAt (laidOf fields values) (getD (joined fields) i 0) ≡ getD (writtenIn fields values) i 0
   unfolding laidOf Digits
   place i h =
-      let long : length (writtenIn fields values) ≡ length (joined fields) = whole-length fields values whole in
+      let long : length (writtenIn fields values) ≡ length (joined fields) = written-whole fields values whole in
       ap (λ (x : ℕ). 48 + x) (code-at (joined fields) (writtenIn fields values) apart-row long i (omega arith))
       ∙ digits-written fields values i (omega arith)
 
   shown-joined : map (shownAt (laidOf fields values)) (joined fields) ≡ writtenIn fields values
   shown-joined =
       ext-getD 0 (map (shownAt (laidOf fields values)) (joined fields)) (writtenIn fields values)
-      (length-map (joined fields) (shownAt (laidOf fields values)) ∙ sym (whole-length fields values whole))
+      (length-map (joined fields) (shownAt (laidOf fields values)) ∙ sym (written-whole fields values whole))
       (λ i h. (let k : i < length (joined fields) = omega (arith, length-map (joined fields) (shownAt (laidOf fields values))) in
       mapped-at (shownAt (laidOf fields values)) (joined fields) i k ∙ place i k))
 
   pub shown-each : map (map (shownAt (laidOf fields values))) fields ≡ writtenEach fields values
-  shown-each = apart (shownAt (laidOf fields values)) fields (writtenEach fields values) (each-lengths fields values whole) (shown-joined ∙ sym (each-joined fields values))
+  shown-each = apart (shownAt (laidOf fields values)) fields (writtenEach fields values) (each-lengths fields values whole) shown-joined
 
 -- ---- the compare of one half is the agreement of its fields
 module _ (registers : List ℕ) (filter : Filter) (values : List ℕ) (whole : length values ≡ length (fieldsOf filter))
@@ -88,16 +79,12 @@ module _ (registers : List ℕ) (filter : Filter) (values : List ℕ) (whole : l
   abbrev w : ℕ
   w = laidOf (fieldsOf filter) values
 
-  w-small : w < 2 ^ 32
-  unfolding laidOf
-  w-small = word-lt one one-lt 0 (rowOf filter) (writtenIn (fieldsOf filter) values) (row-within filter) (omega arith)
-
   -- some of the fields, which are the first or the last of them
   some : (fs asked shown : List (List ℕ)) → T (distinct (joined fs)) → T (within (joined fs))
       → map (charactersIn registers) fs ≡ asked → map (map (shownAt w)) fs ≡ shown
       → eqb (missOf (codeIn registers) (maskIn registers) w (onesAt (joined fs))) 0 ≡ allFit (joined asked) (joined shown)
   some fs asked shown distinct-fs within-fs a s =
-      miss-is registers w code-small mask-small w-small (joined fs) distinct-fs within-fs
+      miss-is registers w code-small mask-small (laid-small filter values) (joined fs) distinct-fs within-fs
       ∙ ap₂ allFit (mapped-joined (characterIn registers) fs ∙ ap joined a) (mapped-joined (shownAt w) fs ∙ ap joined s)
 
   each : map (map (shownAt w)) (fieldsOf filter) ≡ writtenEach (fieldsOf filter) values
@@ -176,16 +163,22 @@ module _ (registers frame : List ℕ) (code-small : codeIn registers < 2 ^ 32) (
   unfolding compareOf matchOf
   compare-is kind = ap (λ (b : Bool). cond {A = Said Bool} (ltb 1 kind) (refuses 7 0) (gives b)) (agrees-is (eqb kind 1))
 
--- ---- the compare of a dual filter: either half
-pub either-half : (kind code mask m n : ℕ) (shown : Shown) → kind ≡ 1 → m ≡ missOf code mask (shown .dual) (shown .first)
-    → n ≡ missOf code mask (shown .dual) (shown .second) → gives (eqb m 0 || eqb n 0) ≡ compareOf kind code mask shown
+-- ---- the compare of a dual filter: the first half, and the second where the first does not agree
+pub by-first : (kind code mask m : ℕ) (shown : Shown) → kind ≡ 1 → m ≡ missOf code mask (shown .dual) (shown .first) → m ≡ 0
+    → gives true ≡ compareOf kind code mask shown
 unfolding compareOf agreesOf
-either-half kind code mask m n shown k e d = rw (k, e, d)
+by-first kind code mask m shown k e none = rw (k, sym e ∙ none)
+
+pub by-second : (kind code mask m n : ℕ) (shown : Shown) → kind ≡ 1 → m ≡ missOf code mask (shown .dual) (shown .first) → (m ≡ 0 → ⊥)
+    → n ≡ missOf code mask (shown .dual) (shown .second) → gives (eqb n 0) ≡ compareOf kind code mask shown
+unfolding compareOf agreesOf
+by-second kind code mask m n shown k e some d = rw (k, ← e, ne-eqb m 0 some, ← d)
 
 -- ---- what is compared is the registers' words and what the frame shows
-pub matched : (kind code mask : ℕ) (registers frame : List ℕ) (shown : Shown) → (code ≡ codeIn registers) × (code < 2 ^ 32) → (mask ≡ maskIn registers) × (mask < 2 ^ 32)
-    → shown ≡ showOf frame → compareOf kind code mask shown ≡ matchOf kind registers frame
-matched kind code mask registers frame shown c m s =
-    ap₂ (λ (x y : ℕ). compareOf kind x y shown) (c .0) (m .0)
-    ∙ ap (compareOf kind (codeIn registers) (maskIn registers)) s
+pub matched : (kind known words code mask : ℕ) (registers frame : List ℕ) (shown : Shown) → kind ≡ known
+    → (code ≡ codeIn registers) × (code < 2 ^ 32) → (mask ≡ maskIn registers) × (mask < 2 ^ 32) → (words / 2 ^ 32 ≡ code) × (words % 2 ^ 32 ≡ mask)
+    → shown ≡ showOf frame → compareOf known (words / 2 ^ 32) (words % 2 ^ 32) shown ≡ matchOf kind registers frame
+matched kind known words code mask registers frame shown k c m both s =
+    ap₂ (λ (x y : ℕ). compareOf known x y shown) (both .0 ∙ c .0) (both .1 ∙ m .0)
+    ∙ ap₂ (λ (x : ℕ) (v : Shown). compareOf x (codeIn registers) (maskIn registers) v) (sym k) s
     ∙ compare-is registers frame (subst (λ (x : ℕ). x < 2 ^ 32) (c .0) (c .1)) (subst (λ (x : ℕ). x < 2 ^ 32) (m .0) (m .1)) kind

@@ -4,10 +4,10 @@ use Prim.Native.Nat.{ℕ, _/_, _^_}
 use mathlib.Core.Bool.{Bool, true, false, _&&_, _||_}
 use mathlib.Core.List.{List, [], _∷_}
 use lib.Dec.{eqb}
-use lib.ListN.{length, getD, take, drop}
+use lib.ListN.{getD, take, drop}
 use Rattle.laws.specs.Row.{bit}
 use Rattle.filters.specs.Table.{Filter, singleStandard, singleExtended, dualStandard, dualExtended, fieldsOf, joined}
-use Rattle.filters.specs.Words.{written}
+use Rattle.filters.specs.Words.{writtenEach}
 use Rattle.filters.specs.Meaning.{patternsIn}
 use Rattle.frames.specs.Buffer.{extendedOf, remoteOf, idOf, dataOf}
 
@@ -31,12 +31,6 @@ numbersIn dualExtended id rtr byte next = id / 2 ^ 13 ∷ id / 2 ^ 13 ∷ []
 
 abbrev pub shownIn : Filter → List ℕ → List ℕ
 shownIn filter frame = numbersIn filter (idOf frame) (bit (remoteOf frame)) (byteOf frame 0) (byteOf frame 1)
-
--- each field's number, written in as many characters as the field has positions
-abbrev pub writtenEach : List (List ℕ) → List ℕ → List (List ℕ)
-writtenEach [] values = []
-writtenEach (f ∷ fields) [] = []
-writtenEach (f ∷ fields) (v ∷ values) = written (length f) v ∷ writtenEach fields values
 
 abbrev pub shownBits : Filter → List ℕ → List (List ℕ)
 shownBits filter frame = writtenEach (fieldsOf filter) (shownIn filter frame)

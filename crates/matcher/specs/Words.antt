@@ -1,4 +1,5 @@
 -- The short form: the two words that a frame shows, each compared with a filter's code at once.
+-- Source: the outline, "The matcher" and refusal 7.
 use Prim.Native.Nat.{ℕ, _-_, _^_}
 use mathlib.Core.Bool.{Bool, true, false, cond, _||_}
 use mathlib.Core.List.{List}

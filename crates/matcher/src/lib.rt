@@ -2,10 +2,10 @@
 ghost use mathlib.Core.Path.{_≡_};
 ghost use mathlib.Core.Bool.{true, false};
 ghost use mathlib.Core.List.{_∷_, []};
-ghost use Prim.Native.Nat.{_<_, _≤_, _^_};
+ghost use Prim.Native.Nat.{_/_, _%_, _^_, _<_, _≤_};
 ghost use lib.ListN.{getD};
 ghost use Rattle.laws.specs.Row.{bit, bytes, pack};
-ghost use Rattle.laws.specs.Said.{gives};
+ghost use Rattle.laws.specs.Said.{refuses, gives};
 ghost use Rattle.identifiers.specs.Limits.{limitOf};
 ghost use Rattle.matcher.specs.Words.{showOf, showBy, missOf, compareOf, matchOf, matchingSaid};
 use refusals::Refusal;
@@ -91,11 +91,18 @@ pub fn show(frame: &[u8; 13]) -> Shown
     show_standard(id, rtr, byte_at(data, 0), byte_at(data, 1))
 }
 
-// Where a named position is compared and the code differs from the word.
-fn miss(code: u32, mask: u32, word: u32, named: u32) -> u32
-    ensures { λ r. ⌜ r ≡ missOf code mask word named ⌝ }
+// A filter's two register words in one, the code's above the mask's.
+fn both(code: u32, mask: u32) -> u64
+    ensures { λ r. ⌜ (r / 2 ^ 32 ≡ code) × (r % 2 ^ 32 ≡ mask) ⌝ }
 {
-    (code ^ word) & !mask & named
+    (code as u64) * 0x1_0000_0000 + (mask as u64)
+}
+
+// Where a named position is compared and the code differs from the word.
+fn miss(registers: u64, word: u32, named: u32) -> u64
+    ensures { λ r. ⌜ r ≡ missOf (registers / 2 ^ 32) (registers % 2 ^ 32) word named ⌝ }
+{
+    ((registers >> 32) ^ (word as u64)) & !registers & (named as u64)
 }
 
 fn verdict(accepted: bool) -> Matching
@@ -108,19 +115,32 @@ fn verdict(accepted: bool) -> Matching
     }
 }
 
+fn wrong_kind() -> Matching
+    ensures { λ r. ⌜ matchingSaid r ≡ refuses 7 0 ⌝ }
+{
+    Matching::Refused(Refusal::FilterKind(0))
+}
+
+fn compare_both(kind: u8, registers: u64, shown: Shown) -> Matching
+    ensures { λ r. ⌜ matchingSaid r ≡ compareOf kind (registers / 2 ^ 32) (registers % 2 ^ 32) shown ⌝ }
+{
+    if kind == 0 {
+        return verdict(miss(registers, shown.single, shown.named) == 0);
+    }
+    if kind != 1 {
+        return wrong_kind();
+    }
+    if miss(registers, shown.dual, shown.first) == 0 {
+        return Matching::Accepted;
+    }
+    verdict(miss(registers, shown.dual, shown.second) == 0)
+}
+
 // A filter's code and mask register words against what a frame shows.
 pub fn compare(kind: u8, code: u32, mask: u32, shown: Shown) -> Matching
     ensures { λ r. ⌜ matchingSaid r ≡ compareOf kind code mask shown ⌝ }
 {
-    if kind == 0 {
-        return verdict(miss(code, mask, shown.single, shown.named) == 0);
-    }
-    if kind > 1 {
-        return Matching::Refused(Refusal::FilterKind(0));
-    }
-    let first = miss(code, mask, shown.dual, shown.first) == 0;
-    let second = miss(code, mask, shown.dual, shown.second) == 0;
-    verdict(first | second)
+    compare_both(kind, both(code, mask), shown)
 }
 
 fn word(a: u8, b: u8, c: u8, d: u8) -> u32
@@ -129,10 +149,18 @@ fn word(a: u8, b: u8, c: u8, d: u8) -> u32
     wide(a) * 0x100_0000 + (wide(b) * 0x1_0000 + (wide(c) * 0x100 + wide(d)))
 }
 
+// The kind is judged first, and each kind looks at the frame by itself, so that only the words that it compares are made.
 pub fn accepts(kind: u8, registers: &[u8; 8], frame: &[u8; 13]) -> Matching
     ensures { λ r. ⌜ matchingSaid r ≡ matchOf kind (now (registers .entry)) (now (frame .entry)) ⌝ }
 {
+    if kind > 1 {
+        return wrong_kind();
+    }
     let code = word(registers[0], registers[1], registers[2], registers[3]);
     let mask = word(registers[4], registers[5], registers[6], registers[7]);
-    compare(kind, code, mask, show(frame))
+    let words = both(code, mask);
+    if kind == 0 {
+        return compare_both(0, words, show(frame));
+    }
+    compare_both(1, words, show(frame))
 }

@@ -39,6 +39,12 @@ step-long n h = ap length (decimal-step n h) ∙ length-append (decimal (n / 10)
 pub small-long : (n : ℕ) → n < 10 → length (decimal n) ≡ 1
 small-long n h = ap length (decimal-small n h)
 
+pub pair-long : (n : ℕ) → 10 ≤ n → n / 10 < 10 → length (decimal n) ≡ 2
+pair-long n h s = omega (arith, step-long n h, small-long (n / 10) s)
+
+pub steps-long : (n : ℕ) → 10 ≤ n → 10 ≤ n / 10 → length (decimal n) ≡ length (decimal (n / 10 / 10)) + 2
+steps-long n h s = omega (arith, step-long n h, step-long (n / 10) s)
+
 -- below ten thousand there are at most four digits
 pub decimal-four : (n : ℕ) → n < 10000 → length (decimal n) ≤ 4
 decimal-four n h =
@@ -64,3 +70,17 @@ put-step at n last out now h r e p =
     ap (λ (l : List ℕ). set l last (48 + n % 10)) p
     ∙ set-then last (48 + n % 10) at (decimal (n / 10)) out e (omega (arith, step-long n h))
     ∙ ap (λ (t : List ℕ). laid at t out) (sym (decimal-step n h))
+
+-- two digits at once
+pub put-pair : (at n : ℕ) (out : List ℕ) → 10 ≤ n → n / 10 < 10 → at + length (decimal n) ≤ length out
+    → set (set out at (48 + n / 10)) (at + 1) (48 + n % 10) ≡ laid at (decimal n) out
+put-pair at n out h s r =
+    put-step at n (at + 1) out (set out at (48 + n / 10)) h r (omega (arith, small-long (n / 10) s))
+    (put-small at (n / 10) out s (omega (arith, step-long n h)))
+
+pub put-steps : (at n last : ℕ) (out now : List ℕ) → 10 ≤ n → 10 ≤ n / 10 → at + length (decimal n) ≤ length out
+    → last ≡ at + length (decimal (n / 10 / 10)) → now ≡ laid at (decimal (n / 10 / 10)) out
+    → set (set now last (48 + n / 10 % 10)) (last + 1) (48 + n % 10) ≡ laid at (decimal n) out
+put-steps at n last out now h s r e p =
+    put-step at n (last + 1) out (set now last (48 + n / 10 % 10)) h r (omega (arith, step-long (n / 10) s))
+    (put-step at (n / 10) last out now s (omega (arith, step-long n h)) e p)

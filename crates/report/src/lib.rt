@@ -35,7 +35,7 @@ fn digits(n: usize) -> usize
     digits(n / 10) + 1
 }
 
-// A number at a place, and the place after it.
+// A number at a place, and the place after it; two digits a call.
 fn put_decimal(out: &mut [u8], at: usize, n: usize) -> usize
     requires { ⌜ at + length (decimal n) ≤ length (now out) ⌝ }
     ensures { λ r. ⌜ (r ≡ at + length (decimal n)) × (now (out .exit) ≡ laid at (decimal n) (now (out .entry))) ⌝ }
@@ -44,9 +44,16 @@ fn put_decimal(out: &mut [u8], at: usize, n: usize) -> usize
         out[at] = (48 + n) as u8;
         return at + 1;
     }
-    let last = put_decimal(out, at, n / 10);
-    out[last] = (48 + n % 10) as u8;
-    last + 1
+    let tenth = n / 10;
+    if tenth < 10 {
+        out[at] = (48 + tenth) as u8;
+        out[at + 1] = (48 + n % 10) as u8;
+        return at + 2;
+    }
+    let last = put_decimal(out, at, tenth / 10);
+    out[last] = (48 + tenth % 10) as u8;
+    out[last + 1] = (48 + n % 10) as u8;
+    last + 2
 }
 
 // A text at a place, and the place after it.

@@ -1,10 +1,10 @@
--- `report::put_decimal` meets its contract: the digits of the tenth, and the last digit behind them. Assumes nothing.
+-- `report::put_decimal` meets its contract: the digits of the hundredth, and the last two behind them. Assumes nothing.
 use Prim.Native.Nat.{ℕ, _<_}
 use lib.ListN.{length-set}
 use native.Mathlib.Omega.{arith}
 use borrow.Fn.Kinds.{In}
 use borrow.Fn.PlainCycle.{Measures, is, falls, and}
-use Rattle.report.proofs.Decimal.{step-long, small-long, put-small, put-step}
+use Rattle.report.proofs.Decimal.{small-long, pair-long, steps-long, put-small, put-pair, put-steps}
 use Rattle.report.proofs.put_decimal.Kinds as put-decimal-kinds
 use Rattle.report.proofs.+put_decimal.{statement}
 use Rattle.report.proofs.+put_decimal.Tie.{close}
@@ -58,12 +58,6 @@ put-decimal-returns : (t : ℕ) → put-decimal-lts.Need-returns (
 ) (put-decimal-at t) put-decimal.Post
 put-decimal-returns t c = (omega (arith, small-long (c .before .before .args .n) (c .if1 .taken)), put-small (c .before .before .args .at) (c .before .before .args .n) (c .before .before .args .out .now) (c .if1 .taken) (omega arith))
 
-put-decimal-put-decimal-requires : (t : ℕ) → put-decimal-lts.Need-put-decimal-requires (
-  put-decimal-below t,
-  put-decimal.Post,
-) (put-decimal-at t) put-decimal.Post
-put-decimal-put-decimal-requires t c κs = (omega (arith, c .before .before .before .pre .0), omega (arith, step-long (c .before .before .before .args .n) (c .before .if1 .left)))
-
 put-decimal-add-out-2 : (t : ℕ) → put-decimal-lts.Need-add-out-2 (
   put-decimal-below t,
   put-decimal.Post,
@@ -80,25 +74,115 @@ put-decimal-slice-write-out-2 : (t : ℕ) → put-decimal-lts.Need-slice-write-o
   put-decimal-below t,
   put-decimal.Post,
 ) (put-decimal-at t) put-decimal.Post
-put-decimal-slice-write-out-2 t c = omega (arith, c .before .before .put-decimal .ensures .0, c .before .before .put-decimal .kept .0, step-long (c .before .before .before .before .before .before .args .n) (c .before .before .before .before .if1 .left))
+put-decimal-slice-write-out-2 t c = omega (arith, pair-long (c .before .before .before .args .n) (c .before .if1 .left) (c .if2 .taken))
+
+put-decimal-add-out-3 : (t : ℕ) → put-decimal-lts.Need-add-out-3 (
+  put-decimal-below t,
+  put-decimal.Post,
+) (put-decimal-at t) put-decimal.Post
+put-decimal-add-out-3 t c = omega arith
+
+put-decimal-cast-out-3 : (t : ℕ) → put-decimal-lts.Need-cast-out-3 (
+  put-decimal-below t,
+  put-decimal.Post,
+) (put-decimal-at t) put-decimal.Post
+put-decimal-cast-out-3 t c = omega arith
+
+put-decimal-add-out-4 : (t : ℕ) → put-decimal-lts.Need-add-out-4 (
+  put-decimal-below t,
+  put-decimal.Post,
+) (put-decimal-at t) put-decimal.Post
+put-decimal-add-out-4 t c = omega (arith, pair-long (c .before .before .before .args .n) (c .before .if1 .left) (c .if2 .taken))
+
+put-decimal-slice-write-out-3 : (t : ℕ) → put-decimal-lts.Need-slice-write-out-3 (
+  put-decimal-below t,
+  put-decimal.Post,
+) (put-decimal-at t) put-decimal.Post
+put-decimal-slice-write-out-3 t c = rw (length-set) (omega (arith, pair-long (c .before .before .before .args .n) (c .before .if1 .left) (c .if2 .taken)))
 
 put-decimal-add-result-2 : (t : ℕ) → put-decimal-lts.Need-add-result-2 (
   put-decimal-below t,
   put-decimal.Post,
 ) (put-decimal-at t) put-decimal.Post
-put-decimal-add-result-2 t c = omega (arith, c .before .before .put-decimal .ensures .0, c .before .before .put-decimal .kept .0, step-long (c .before .before .before .before .before .before .args .n) (c .before .before .before .before .if1 .left))
+put-decimal-add-result-2 t c = omega (arith, pair-long (c .before .before .before .args .n) (c .before .if1 .left) (c .if2 .taken))
 
 put-decimal-same-length-2 : (t : ℕ) → put-decimal-lts.Need-same-length-2 (
   put-decimal-below t,
   put-decimal.Post,
 ) (put-decimal-at t) put-decimal.Post
-put-decimal-same-length-2 t c = simp length-set (c .before .before .put-decimal .kept .0)
+put-decimal-same-length-2 t c = simp length-set
 
 put-decimal-returns-2 : (t : ℕ) → put-decimal-lts.Need-returns-2 (
   put-decimal-below t,
   put-decimal.Post,
 ) (put-decimal-at t) put-decimal.Post
-put-decimal-returns-2 t c = (omega (arith, c .before .before .put-decimal .ensures .0, step-long (c .before .before .before .before .before .before .args .n) (c .before .before .before .before .if1 .left)), put-step (c .before .before .before .before .before .before .args .at) (c .before .before .before .before .before .before .args .n) _ (c .before .before .before .before .before .before .args .out .now) _ (c .before .before .before .before .if1 .left) (omega arith) (c .before .before .put-decimal .ensures .0) (c .before .before .put-decimal .ensures .1))
+put-decimal-returns-2 t c = (omega (arith, pair-long (c .before .before .before .args .n) (c .before .if1 .left) (c .if2 .taken)), put-pair (c .before .before .before .args .at) (c .before .before .before .args .n) (c .before .before .before .args .out .now) (c .before .if1 .left) (c .if2 .taken) (omega arith))
+
+put-decimal-put-decimal-requires : (t : ℕ) → put-decimal-lts.Need-put-decimal-requires (
+  put-decimal-below t,
+  put-decimal.Post,
+) (put-decimal-at t) put-decimal.Post
+put-decimal-put-decimal-requires t c κs = (omega (arith, c .before .before .before .before .pre .0), omega (arith, steps-long (c .before .before .before .before .args .n) (c .before .before .if1 .left) (c .before .if2 .left)))
+
+put-decimal-add-out-5 : (t : ℕ) → put-decimal-lts.Need-add-out-5 (
+  put-decimal-below t,
+  put-decimal.Post,
+) (put-decimal-at t) put-decimal.Post
+put-decimal-add-out-5 t c = omega arith
+
+put-decimal-cast-out-4 : (t : ℕ) → put-decimal-lts.Need-cast-out-4 (
+  put-decimal-below t,
+  put-decimal.Post,
+) (put-decimal-at t) put-decimal.Post
+put-decimal-cast-out-4 t c = omega arith
+
+put-decimal-slice-write-out-4 : (t : ℕ) → put-decimal-lts.Need-slice-write-out-4 (
+  put-decimal-below t,
+  put-decimal.Post,
+) (put-decimal-at t) put-decimal.Post
+put-decimal-slice-write-out-4 t c = omega (arith, c .before .before .put-decimal .ensures .0, c .before .before .put-decimal .kept .0, steps-long (c .before .before .before .before .before .before .before .args .n) (c .before .before .before .before .before .if1 .left) (c .before .before .before .before .if2 .left))
+
+put-decimal-add-out-6 : (t : ℕ) → put-decimal-lts.Need-add-out-6 (
+  put-decimal-below t,
+  put-decimal.Post,
+) (put-decimal-at t) put-decimal.Post
+put-decimal-add-out-6 t c = omega arith
+
+put-decimal-cast-out-5 : (t : ℕ) → put-decimal-lts.Need-cast-out-5 (
+  put-decimal-below t,
+  put-decimal.Post,
+) (put-decimal-at t) put-decimal.Post
+put-decimal-cast-out-5 t c = omega arith
+
+put-decimal-add-out-7 : (t : ℕ) → put-decimal-lts.Need-add-out-7 (
+  put-decimal-below t,
+  put-decimal.Post,
+) (put-decimal-at t) put-decimal.Post
+put-decimal-add-out-7 t c = omega (arith, c .before .before .put-decimal .ensures .0, c .before .before .put-decimal .kept .0, steps-long (c .before .before .before .before .before .before .before .args .n) (c .before .before .before .before .before .if1 .left) (c .before .before .before .before .if2 .left))
+
+put-decimal-slice-write-out-5 : (t : ℕ) → put-decimal-lts.Need-slice-write-out-5 (
+  put-decimal-below t,
+  put-decimal.Post,
+) (put-decimal-at t) put-decimal.Post
+put-decimal-slice-write-out-5 t c = rw (length-set) (omega (arith, c .before .before .put-decimal .ensures .0, c .before .before .put-decimal .kept .0, steps-long (c .before .before .before .before .before .before .before .args .n) (c .before .before .before .before .before .if1 .left) (c .before .before .before .before .if2 .left)))
+
+put-decimal-add-result-3 : (t : ℕ) → put-decimal-lts.Need-add-result-3 (
+  put-decimal-below t,
+  put-decimal.Post,
+) (put-decimal-at t) put-decimal.Post
+put-decimal-add-result-3 t c = omega (arith, c .before .before .put-decimal .ensures .0, c .before .before .put-decimal .kept .0, steps-long (c .before .before .before .before .before .before .before .args .n) (c .before .before .before .before .before .if1 .left) (c .before .before .before .before .if2 .left))
+
+put-decimal-same-length-3 : (t : ℕ) → put-decimal-lts.Need-same-length-3 (
+  put-decimal-below t,
+  put-decimal.Post,
+) (put-decimal-at t) put-decimal.Post
+put-decimal-same-length-3 t c = simp length-set (c .before .before .put-decimal .kept .0)
+
+put-decimal-returns-3 : (t : ℕ) → put-decimal-lts.Need-returns-3 (
+  put-decimal-below t,
+  put-decimal.Post,
+) (put-decimal-at t) put-decimal.Post
+put-decimal-returns-3 t c = (omega (arith, c .before .before .put-decimal .ensures .0, steps-long (c .before .before .before .before .before .before .before .args .n) (c .before .before .before .before .before .if1 .left) (c .before .before .before .before .if2 .left)), put-steps (c .before .before .before .before .before .before .before .args .at) (c .before .before .before .before .before .before .before .args .n) _ (c .before .before .before .before .before .before .before .args .out .now) _ (c .before .before .before .before .before .if1 .left) (c .before .before .before .before .if2 .left) (omega arith) (c .before .before .put-decimal .ensures .0) (c .before .before .put-decimal .ensures .1))
 
 pub +put-decimal-spec : {M : Type 1} → statement M
 +put-decimal-spec = close μ-put-decimal λ t. put-decimal-lts.spec (
@@ -113,10 +197,24 @@ pub +put-decimal-spec : {M : Type 1} → statement M
     (put-decimal-add-result t)
     (put-decimal-same-length t)
     (put-decimal-returns t)
-    (put-decimal-put-decimal-requires t)
     (put-decimal-add-out-2 t)
     (put-decimal-cast-out-2 t)
     (put-decimal-slice-write-out-2 t)
+    (put-decimal-add-out-3 t)
+    (put-decimal-cast-out-3 t)
+    (put-decimal-add-out-4 t)
+    (put-decimal-slice-write-out-3 t)
     (put-decimal-add-result-2 t)
     (put-decimal-same-length-2 t)
     (put-decimal-returns-2 t)
+    (put-decimal-put-decimal-requires t)
+    (put-decimal-add-out-5 t)
+    (put-decimal-cast-out-4 t)
+    (put-decimal-slice-write-out-4 t)
+    (put-decimal-add-out-6 t)
+    (put-decimal-cast-out-5 t)
+    (put-decimal-add-out-7 t)
+    (put-decimal-slice-write-out-5 t)
+    (put-decimal-add-result-3 t)
+    (put-decimal-same-length-3 t)
+    (put-decimal-returns-3 t)
