@@ -1,5 +1,5 @@
-# Sourced by setup.sh on a machine that is not x86-64, because the archives are for x86-64 alone: a Rust compiler with
-# its library for x86-64, a linker and an emulator. They are Debian's packages, unpacked into a cache, not installed.
+# Sourced by setup.sh and script on a machine that is not x86-64, because the archives are for x86-64 alone: a Rust
+# compiler with its library for x86-64, a C compiler, which links, and an emulator. They are Debian's packages, unpacked into a cache, not installed.
 CROSS=${XDG_CACHE_HOME:-$HOME/.cache}/chherbolat/cross
 TREE=$CROSS/root
 
@@ -51,6 +51,7 @@ works() {
 }
 
 link_flags=(-C link-arg=--target=x86_64-linux-gnu -C link-arg=-fuse-ld=lld -C "link-arg=--sysroot=$TREE")
+CC=("$TREE/usr/bin/clang" --target=x86_64-linux-gnu -fuse-ld=lld "--sysroot=$TREE")
 EMULATOR=("$TREE/usr/bin/qemu-x86_64-static" -L "$TREE")
 export RUSTC=$CROSS/rustc
 export CARGO_BUILD_TARGET=x86_64-unknown-linux-gnu

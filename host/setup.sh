@@ -14,6 +14,7 @@ export TWAI_SRC=${TWAI_SRC:-$ROOT/../shared/docs/src}
 export RATTLE_LIB_DIR=${RATTLE_LIB_DIR:-$ROOT/target/staticlib}
 export CARGO_TARGET_DIR=${CARGO_TARGET_DIR:-$HOST/target}
 export CARGO_NET_OFFLINE=true
+CC=(cc)
 EMULATOR=()
 
 build() { # PROFILE PROGRAM

@@ -1,4 +1,5 @@
-/* The exports of libexports_frames.a, libexports_filters.a, libexports_matcher.a, libexports_decisions.a and libexports_box.a. docs/ABI.md says what each gives and refuses. A slice is a pointer and a length. */
+/* The exports of the archives libexports_….a, one for each part. docs/ABI.md says what each gives and refuses. A slice is
+   a pointer and a length. */
 #ifndef CHHERBOLAT_H
 #define CHHERBOLAT_H
 
@@ -75,6 +76,11 @@ chherbolat_answer chherbolat_dual_extended_filter_new_from_code_mask(uint16_t fi
 
 chherbolat_answer chherbolat_matcher_accepts(uint8_t kind, const uint8_t *registers, size_t registers_length,
                                              const uint8_t *frame, size_t frame_length);
+
+chherbolat_answer chherbolat_read_file(const uint8_t *file, size_t file_length);
+chherbolat_answer chherbolat_write_file(const uint8_t *filters, size_t filters_length, const uint8_t *frames,
+                                        size_t frames_length, uint8_t *out, size_t out_length);
+chherbolat_answer chherbolat_report(const uint8_t *file, size_t file_length, uint8_t *out, size_t out_length);
 
 chherbolat_answer chherbolat_transmit(uint32_t status, bool error_passive);
 chherbolat_answer chherbolat_poll(uint32_t status, bool error_passive, bool in_flight);

@@ -2,8 +2,16 @@
 //! archive may be missing.
 use std::{env, path::Path};
 
-const ARCHIVES: [&str; 4] =
-    ["libexports_frames.a", "libexports_filters.a", "libexports_matcher.a", "libexports_decisions.a"];
+const ARCHIVES: [&str; 8] = [
+    "libexports_identifiers.a",
+    "libexports_building.a",
+    "libexports_frames.a",
+    "libexports_filters.a",
+    "libexports_matcher.a",
+    "libexports_files.a",
+    "libexports_report.a",
+    "libexports_decisions.a",
+];
 const BOX_ARCHIVE: &str = "libexports_box.a";
 
 fn main() {

@@ -1,38 +1,11 @@
--- Frames by plain numbers: an identifier is its format and its number, a frame a slice that must be 13 bytes long.
+-- A frame as a slice that must be 13 bytes long: the identifier's number in it, and a part of it in a lent output.
 -- Source: the outline, "What changes shape"; docs/ABI.md.
 use Prim.Native.Nat.{ℕ}
-use mathlib.Core.Bool.{Bool, true, false, cond}
+use mathlib.Core.Bool.{Bool}
 use mathlib.Core.List.{List}
-use lib.Dec.{leb}
-use lib.ListN.{length}
 use Rattle.laws.specs.Said.{Said, refuses, gives}
-use Rattle.refusals.specs.declared.Refusal.the-variants.{IdentifierAboveLimit}
-use Rattle.identifiers.specs.declared.Id.the-variants.{Standard, Extended}
-use Rattle.frames.specs.Buffer.{Frame}
-use Rattle.frames.specs.Building.{buildOf}
-use Rattle.frames.specs.declared.Identified.{Identified}
-use Rattle.frames.specs.declared.Identified.the-variants.{Read, Refused}
 use Rattle.laws.specs.Laid.{laying, written}
-use Rattle.answers.specs.Answers.{whole, delivering, deliveryLeaves}
-
--- the identifier of a format and a number: a standard number that no u16 holds is none
-abbrev pub idFrom : Bool → ℕ → Identified
-idFrom true raw = Read (Extended (record { 0 = raw }))
-idFrom false raw = cond (leb raw 0xFFFF) (Read (Standard (record { 0 = raw }))) (Refused IdentifierAboveLimit)
-
-abbrev pub plain : Bool → ℕ → Bool → Bool → ℕ → List ℕ → Frame
-plain extended id remote own code payload =
-    record { extended = extended; remote = remote; own = own; code = code; id = id; payload = payload }
-
-abbrev pub plainData : Bool → ℕ → Bool → List ℕ → Frame
-plainData extended id own payload = plain extended id false own (length payload) payload
-
--- building into a lent frame, whose place among the arguments is given
-abbrev pub building : ℕ → List ℕ → Frame → Said ℕ
-building argument frame f = delivering 13 argument frame (buildOf f)
-
-abbrev pub buildingLeaves : ℕ → List ℕ → Frame → List ℕ
-buildingLeaves argument frame f = deliveryLeaves 13 argument frame (buildOf f)
+use Rattle.answers.specs.Answers.{whole}
 
 -- an identifier without its format
 abbrev pub numberSaid : Said (Bool × ℕ) → Said ℕ

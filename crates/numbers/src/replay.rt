@@ -34,7 +34,7 @@ fn leaves(answer: Answer, frame: &[u8; 13], stored: &[u8]) -> bool {
 fn standard_id(bytes: &[u8]) -> bool {
     let raw = (text::number(bytes, 0, 2) % 0x1_0000) as u16;
     says(
-        exports_frames::chherbolat_standard_id_new(raw),
+        exports_identifiers::chherbolat_standard_id_new(raw),
         text::part(bytes, 2, 9),
     )
 }
@@ -42,7 +42,7 @@ fn standard_id(bytes: &[u8]) -> bool {
 fn extended_id(bytes: &[u8]) -> bool {
     let raw = (text::number(bytes, 0, 4) % 0x1_0000_0000) as u32;
     says(
-        exports_frames::chherbolat_extended_id_new(raw),
+        exports_identifiers::chherbolat_extended_id_new(raw),
         text::part(bytes, 4, 9),
     )
 }
@@ -50,7 +50,7 @@ fn extended_id(bytes: &[u8]) -> bool {
 fn base_id(bytes: &[u8]) -> bool {
     let raw = (text::number(bytes, 0, 4) % 0x1_0000_0000) as u32;
     says(
-        exports_frames::chherbolat_extended_id_standard_id(raw),
+        exports_identifiers::chherbolat_extended_id_standard_id(raw),
         text::part(bytes, 4, 9),
     )
 }
@@ -64,7 +64,7 @@ fn new_from_parameters(bytes: &[u8]) -> bool {
     let length = (text::number(bytes, 15, 2) % 0x1_0000) as usize;
     let data = text::part(bytes, 17, length);
     let mut frame = [0xA5u8; 13];
-    let answer = exports_frames::chherbolat_new_from_parameters(
+    let answer = exports_building::chherbolat_new_from_parameters(
         extended,
         id,
         remote,
@@ -84,10 +84,15 @@ fn new(own: bool, bytes: &[u8]) -> bool {
     let stored = text::part(bytes, 7 + length, 22);
     let mut frame = [0xA5u8; 13];
     if own {
-        let answer = exports_frames::chherbolat_new_self_reception(extended, id, data, &mut frame);
+        let answer = exports_building::chherbolat_new_self_reception(
+            extended,
+            id,
+            data,
+            &mut frame,
+        );
         return leaves(answer, &frame, stored);
     }
-    let answer = exports_frames::chherbolat_new(extended, id, data, &mut frame);
+    let answer = exports_building::chherbolat_new(extended, id, data, &mut frame);
     leaves(answer, &frame, stored)
 }
 

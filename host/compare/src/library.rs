@@ -1,6 +1,7 @@
 //! The library's side of the face: what its archives declare (docs/ABI.md).
 use oracle::{answer::Answer, face::Face};
 
+mod files;
 mod filters;
 pub mod receive_box;
 
@@ -22,16 +23,21 @@ pub const LIBRARY: Face = Face {
     as_slice: chherbolat_as_slice,
     filters: filters::FILTERS,
     matcher_accepts: chherbolat_matcher_accepts,
+    files: files::FILES,
     transmit: chherbolat_transmit,
     poll: chherbolat_poll,
     receive: chherbolat_receive,
 };
 
-#[link(name = "exports_frames", kind = "static")]
+#[link(name = "exports_identifiers", kind = "static")]
 unsafe extern "C" {
     fn chherbolat_standard_id_new(raw: u16) -> Answer;
     fn chherbolat_extended_id_new(raw: u32) -> Answer;
     fn chherbolat_extended_id_standard_id(raw: u32) -> Answer;
+}
+
+#[link(name = "exports_building", kind = "static")]
+unsafe extern "C" {
     fn chherbolat_new_from_parameters(
         extended: bool,
         id: u32,
@@ -59,6 +65,10 @@ unsafe extern "C" {
         frame: *mut u8,
         frame_length: usize,
     ) -> Answer;
+}
+
+#[link(name = "exports_frames", kind = "static")]
+unsafe extern "C" {
     fn chherbolat_is_extended_format(frame: *const u8, frame_length: usize) -> Answer;
     fn chherbolat_is_remote_request(frame: *const u8, frame_length: usize) -> Answer;
     fn chherbolat_is_self_reception(frame: *const u8, frame_length: usize) -> Answer;

@@ -13,6 +13,7 @@ pub enum Case {
     CodeMask(CodeMask),
     Match(Match),
     Decide(Decision),
+    File(FileCall),
 }
 
 #[derive(Debug, Clone, PartialEq, Eq)]
@@ -74,4 +75,12 @@ pub enum Decision {
     Transmit { status: u32, error_passive: bool },
     Poll { status: u32, error_passive: bool, in_flight: bool },
     Receive { status: u32 },
+}
+
+/// What is done with a frame file; with the length of the slice that is lent for what is written.
+#[derive(Debug, Clone, PartialEq, Eq)]
+pub enum FileCall {
+    Read { file: Vec<u8> },
+    Write { filters: Vec<u8>, frames: Vec<u8>, room: usize },
+    Report { file: Vec<u8>, room: usize },
 }

@@ -6,6 +6,7 @@ use crate::{
 };
 
 mod decisions;
+mod files;
 mod filters;
 pub mod matcher;
 
@@ -67,6 +68,7 @@ pub fn all(count: u64, compilers: &[&Filters], visit: &mut impl FnMut(Case)) {
     filters::all(count, visit);
     matcher::all(count, compilers, visit);
     decisions::all(count, visit);
+    files::all(count, visit);
 }
 
 /// Visits a few thousand cases that reach every branch.

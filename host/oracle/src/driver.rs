@@ -1,5 +1,6 @@
 //! The driver's side of the face. What the driver has no counterpart for is added by the rules of docs/ABI.md:
-//! the refusals 14 and 6, refusal 1 where a constructor answers `None`, the number of a refused `new`, and the matcher.
+//! the refusals 14 and 6, refusal 1 where a constructor answers `None`, the number of a refused `new`, the matcher, and
+//! what is done with frame files.
 use std::slice;
 
 use original::twai::{EspTwaiError, EspTwaiFrame, ExtendedId, Id, StandardId, probe};
@@ -12,6 +13,7 @@ use crate::{
 };
 
 mod decisions;
+mod files;
 pub mod filters;
 mod matcher;
 
@@ -33,6 +35,7 @@ pub const DRIVER: Face = Face {
     as_slice,
     filters: filters::FILTERS,
     matcher_accepts: matcher::matcher_accepts,
+    files: files::FILES,
     transmit: decisions::transmit,
     poll: decisions::poll,
     receive: decisions::receive,
@@ -203,7 +206,10 @@ unsafe fn copy(
     let Some(frame) = (unsafe { to_frame(frame, frame_length) }) else {
         return Answer::refuses(WRONG_SLICE_LENGTH, 0);
     };
-    let bytes = reader(frame);
+    lay(reader(frame), out)
+}
+
+fn lay(bytes: &[u8], out: &mut [u8]) -> Answer {
     let needed = bytes.len() as u64;
     match out.get_mut(..bytes.len()) {
         Some(front) => {

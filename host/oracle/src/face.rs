@@ -1,6 +1,7 @@
 //! The functions of docs/ABI.md, by their names there without the prefix, as a table that each side fills.
 use crate::answer::Answer;
 
+pub mod files;
 pub mod filters;
 
 pub const FRAME_LENGTH: usize = 13;
@@ -50,6 +51,7 @@ pub struct Face {
         frame: *const u8,
         frame_length: usize,
     ) -> Answer,
+    pub files: files::Files,
     pub transmit: unsafe extern "C" fn(status: u32, error_passive: bool) -> Answer,
     pub poll: unsafe extern "C" fn(status: u32, error_passive: bool, in_flight: bool) -> Answer,
     pub receive: unsafe extern "C" fn(status: u32) -> Answer,

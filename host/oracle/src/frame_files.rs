@@ -1,13 +1,11 @@
 //! Frame files: good ones, and such that are cut, lengthened or spoilt.
+use plain::file::{FILTER_LENGTH, MOST_FILTERS, MOST_FRAMES};
+
 use crate::{
     cases::matcher::{mostly_ones, random_filter, random_frame},
     driver::filters::FILTERS,
     random::Random,
 };
-
-const MOST_FILTERS: usize = 16;
-const MOST_FRAMES: usize = 4096;
-const FILTER_LENGTH: usize = 9;
 
 /// Files at the limits of the counts, the kinds and the length.
 pub fn at_limits(random: &mut Random) -> Vec<Vec<u8>> {
@@ -34,12 +32,12 @@ pub fn at_limits(random: &mut Random) -> Vec<Vec<u8>> {
     ]
 }
 
-/// Half of them unspoilt.
-pub fn any(random: &mut Random) -> Vec<u8> {
+/// Half of them unspoilt; one in so many may be large.
+pub fn any(one_large_in: u64, random: &mut Random) -> Vec<u8> {
     let filters = [0, 1, 2, MOST_FILTERS, random.below(17) as usize][random.below(5) as usize];
     let few = [0, 1, 2, random.below(14), random.below(120)][random.below(5) as usize];
     let many = [random.below(MOST_FRAMES as u64), MOST_FRAMES as u64][random.below(2) as usize];
-    let mut file = good(filters, if random.one_in(12) { many } else { few } as usize, random);
+    let mut file = good(filters, if random.one_in(one_large_in) { many } else { few } as usize, random);
     match random.below(8) {
         0 => file.truncate(random.below(file.len() as u64) as usize),
         1 => {
@@ -58,15 +56,23 @@ pub fn any(random: &mut Random) -> Vec<u8> {
 
 pub fn good(filters: usize, frames: usize, random: &mut Random) -> Vec<u8> {
     let mut file = vec![filters as u8];
-    for _ in 0..filters {
-        file.push(random.below(2) as u8);
-        file.extend(if random.one_in(2) { random_filter(&FILTERS, random) } else { mostly_ones(random) });
-    }
+    file.extend(filter_entries(filters, random));
     file.extend((frames as u16).to_be_bytes());
-    for _ in 0..frames {
-        file.extend(random_frame(random.one_in(2), random));
-    }
+    file.extend(frame_entries(frames, random));
     file
+}
+
+pub fn filter_entries(count: usize, random: &mut Random) -> Vec<u8> {
+    let mut entries = Vec::with_capacity(FILTER_LENGTH * count);
+    for _ in 0..count {
+        entries.push(random.below(2) as u8);
+        entries.extend(if random.one_in(2) { random_filter(&FILTERS, random) } else { mostly_ones(random) });
+    }
+    entries
+}
+
+pub fn frame_entries(count: usize, random: &mut Random) -> Vec<u8> {
+    (0..count).flat_map(|_| random_frame(random.one_in(2), random)).collect()
 }
 
 /// The place of a kind, or of one byte of a count.

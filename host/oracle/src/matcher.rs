@@ -1,5 +1,4 @@
-//! The matcher, which the driver lacks: a model after the manual's words (ESP32-C3, TWAI chapter, acceptance filter),
-//! position by position.
+//! The matcher, which the driver lacks: a model after the outline's words ("The matcher"), position by position.
 use crate::face::{FRAME_LENGTH, filters::REGISTERS_LENGTH};
 
 /// A position in the registers' words, and what the frame shows there.

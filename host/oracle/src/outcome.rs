@@ -5,12 +5,13 @@ use crate::{
     face::Face,
 };
 
+mod files;
 pub mod filters;
 
 /// What every lent byte holds before a call.
 const FILL: u8 = 0xA5;
-/// More than the longest slice that a case lends, to see a write past its end.
-const LENT_LENGTH: usize = 48;
+/// How many bytes stand behind a lent slice, to see a write past its end.
+const BYTES_BEHIND: usize = 16;
 
 #[derive(Debug, PartialEq, Eq)]
 pub enum Outcome {
@@ -20,12 +21,13 @@ pub enum Outcome {
     Read(Readings),
     Matched(Answer),
     Decided(Answer),
+    Filed(Lending),
 }
 
 #[derive(Debug, PartialEq, Eq)]
 pub struct Lending {
     pub answer: Answer,
-    pub lent: [u8; LENT_LENGTH],
+    pub lent: Vec<u8>,
 }
 
 #[derive(Debug, PartialEq, Eq)]
@@ -59,6 +61,9 @@ impl Outcome {
                 (face.matcher_accepts)(*kind, registers.as_ptr(), registers.len(), frame.as_ptr(), frame.len())
             }),
             Case::Decide(decision) => Outcome::Decided(decided(face, *decision)),
+            Case::File(call) => {
+                Outcome::Filed(Lending::of(files::room(call), |out| files::made(&face.files, call, out)))
+            }
         }
     }
 
@@ -66,7 +71,9 @@ impl Outcome {
     pub fn refusals_write_nothing(&self) -> bool {
         match self {
             Outcome::Number(_) | Outcome::Matched(_) | Outcome::Decided(_) => true,
-            Outcome::Built(lending) | Outcome::Compiled(lending) => lending.refusal_writes_nothing(),
+            Outcome::Built(lending) | Outcome::Compiled(lending) | Outcome::Filed(lending) => {
+                lending.refusal_writes_nothing()
+            }
             Outcome::Read(readings) => readings.data.refusal_writes_nothing() && readings.used.refusal_writes_nothing(),
         }
     }
@@ -82,7 +89,7 @@ fn decided(face: &Face, decision: Decision) -> Answer {
 
 impl Lending {
     fn of(room: usize, call: impl FnOnce(&mut [u8]) -> Answer) -> Self {
-        let mut lent = [FILL; LENT_LENGTH];
+        let mut lent = vec![FILL; room + BYTES_BEHIND];
         let answer = call(&mut lent[..room]);
         Lending { answer, lent }
     }
@@ -106,7 +113,7 @@ impl Lending {
     }
 
     fn refusal_writes_nothing(&self) -> bool {
-        !self.answer.is_refusal() || self.lent == [FILL; LENT_LENGTH]
+        !self.answer.is_refusal() || self.lent.iter().all(|byte| *byte == FILL)
     }
 }
 

@@ -1,19 +1,23 @@
-//! The reader of frame files.
+//! The reader and the writer of frame files.
 use crate::matcher::Filter;
 
-const MOST_FILTERS: usize = 16;
-const MOST_FRAMES: usize = 4096;
+pub const MOST_FILTERS: usize = 16;
+pub const MOST_FRAMES: usize = 4096;
 
-pub type Frame = [u8; 13];
+pub const FILTER_LENGTH: usize = 9;
+const FRAME_LENGTH: usize = 13;
+
+pub type Frame = [u8; FRAME_LENGTH];
 
 pub struct File<'a> {
     pub filters: Vec<Filter>,
     pub frames: &'a [Frame],
 }
 
+/// By an offset of the reader, or a section or an entry of the writer.
 pub struct Refusal {
     pub number: u32,
-    pub offset: usize,
+    pub at: usize,
 }
 
 pub fn read(file: &[u8]) -> Result<File<'_>, Refusal> {
@@ -74,6 +78,29 @@ impl<'a> Fields<'a> {
     }
 }
 
-fn refuse<T>(number: u32, offset: usize) -> Result<T, Refusal> {
-    Err(Refusal { number, offset })
+/// The file of these entries.
+pub fn write(filters: &[u8], frames: &[u8]) -> Result<Vec<u8>, Refusal> {
+    let (filters, part_of_filter) = filters.as_chunks::<FILTER_LENGTH>();
+    let (frames, part_of_frame) = frames.as_chunks::<FRAME_LENGTH>();
+    if !part_of_filter.is_empty() {
+        return refuse(14, 0);
+    }
+    if !part_of_frame.is_empty() {
+        return refuse(14, 1);
+    }
+    if filters.len() > MOST_FILTERS {
+        return refuse(12, 0);
+    }
+    if frames.len() > MOST_FRAMES {
+        return refuse(12, 1);
+    }
+    if let Some(entry) = filters.iter().position(|[kind, ..]| *kind > 1) {
+        return refuse(7, entry);
+    }
+    let counts = (&[filters.len() as u8], &(frames.len() as u16).to_be_bytes());
+    Ok([&counts.0[..], filters.as_flattened(), counts.1, frames.as_flattened()].concat())
+}
+
+fn refuse<T>(number: u32, at: usize) -> Result<T, Refusal> {
+    Err(Refusal { number, at })
 }

@@ -11,7 +11,7 @@ const LONGEST_LAST_LINE: usize = "accepted 4096\n".len();
 pub fn report(file: &[u8]) -> Vec<u8> {
     match file::read(file) {
         Ok(file) => verdicts(&file),
-        Err(Refusal { number, offset }) => format!("refused {number} at {offset}\n").into_bytes(),
+        Err(Refusal { number, at }) => format!("refused {number} at {at}\n").into_bytes(),
     }
 }
 

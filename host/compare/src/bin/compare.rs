@@ -6,7 +6,7 @@ use std::{collections::BTreeMap, hint::black_box, process::exit};
 use compare::{DIFFERENT, UNUSABLE, grouped, library::LIBRARY};
 use oracle::{
     answer::Answer,
-    case::{Case, Decision, Match},
+    case::{Case, Decision, FileCall, Match},
     cases::{self, OUT_LENGTH},
     compiler::Compiler,
     driver::{DRIVER, filters::silence_refusals},
@@ -41,7 +41,8 @@ fn check_source() {
 }
 
 /// How many cases of each kind, and how many frames and filters by the number of the answer; and how many frames were
-/// matched by each row of positions, and accepted; and how many decisions by answer and command.
+/// matched by each row of positions, and accepted; and how many decisions by answer and command; and how many files by
+/// what was done with them and the number of the answer.
 #[derive(Default)]
 struct Tally {
     kinds: BTreeMap<&'static str, u64>,
@@ -51,6 +52,7 @@ struct Tally {
     matched: [u64; Compiler::ALL.len()],
     accepted: [u64; Compiler::ALL.len()],
     decided: BTreeMap<(&'static str, u64), u64>,
+    filed: BTreeMap<(&'static str, u32), u64>,
 }
 
 impl Tally {
@@ -77,6 +79,7 @@ impl Tally {
             Outcome::Built(lending) => *self.built.entry(lending.answer.number).or_default() += 1,
             Outcome::Compiled(lending) => *self.compiled.entry(lending.answer.number).or_default() += 1,
             Outcome::Decided(answer) => self.count_decision(&case, answer),
+            Outcome::Filed(lending) => *self.filed.entry((kind(&case), lending.answer.number)).or_default() += 1,
             Outcome::Number(_) | Outcome::Read(_) => {}
         }
     }
@@ -103,6 +106,11 @@ impl Tally {
         self.decided.iter().map(count).collect::<Vec<_>>().join(", ")
     }
 
+    fn files(&self) -> String {
+        let count = |((kind, number), count): (&(&str, u32), &u64)| format!("{kind} {number}: {}", grouped(*count));
+        self.filed.iter().map(count).collect::<Vec<_>>().join(", ")
+    }
+
     fn by_row(&self) -> String {
         let rows = ["single standard", "single extended", "dual standard", "dual extended"].iter().enumerate();
         let counts = |row: usize| (grouped(self.accepted[row]), grouped(self.matched[row]));
@@ -117,6 +125,7 @@ impl Tally {
         println!("frames accepted, by row of positions: {}", self.by_row());
         println!("matching refused, by number: {}", by_number(&self.refused_matches));
         println!("decisions, by answer/command: {}", self.decisions());
+        println!("answers about files, by number: {}", self.files());
         println!("compared: {}; 0 differ", kinds.join(", "));
     }
 }
@@ -154,6 +163,9 @@ fn kind(case: &Case) -> &'static str {
         Case::Decide(Decision::Transmit { .. }) => "transmits",
         Case::Decide(Decision::Poll { .. }) => "polls",
         Case::Decide(Decision::Receive { .. }) => "receives",
+        Case::File(FileCall::Read { .. }) => "files read",
+        Case::File(FileCall::Write { .. }) => "files written",
+        Case::File(FileCall::Report { .. }) => "files reported on",
         Case::Build(_) | Case::Read(_) | Case::Patterns(_) | Case::CodeMask(_) | Case::Match(_) => {
             "lent slices of other lengths"
         }

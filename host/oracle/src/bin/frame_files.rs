@@ -8,6 +8,8 @@ use std::{
 
 use oracle::{frame_files, random::Random};
 
+const ONE_LARGE_IN: u64 = 12;
+
 fn main() -> io::Result<()> {
     let arguments: Vec<String> = std::env::args().skip(1).collect();
     let number = |place: usize| arguments[place].parse::<u64>().expect("a number");
@@ -24,6 +26,6 @@ fn main() -> io::Result<()> {
 fn write_all(folder: &Path, count: u64, seed: u64) -> io::Result<()> {
     let random = &mut Random::from_seed(seed);
     let at_limits = frame_files::at_limits(random);
-    let files = at_limits.into_iter().chain((0..count).map(|_| frame_files::any(random)));
+    let files = at_limits.into_iter().chain((0..count).map(|_| frame_files::any(ONE_LARGE_IN, random)));
     files.enumerate().try_for_each(|(index, file)| fs::write(folder.join(format!("{index:06}")), file))
 }

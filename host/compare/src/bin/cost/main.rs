@@ -12,6 +12,8 @@ use oracle::{
 };
 use original::twai::{EspTwaiFrame, probe};
 
+mod calls;
+mod decisions;
 mod filters;
 mod matcher;
 
@@ -91,18 +93,52 @@ fn main() {
 
 fn names() -> impl Iterator<Item = &'static str> {
     let frames = ROWS.iter().map(|row| row.name);
-    frames.chain(filters::ROWS.iter().map(|row| row.name)).chain(matcher::ROWS.iter().map(|row| row.name))
+    let filters = filters::ROWS.iter().map(|row| row.name);
+    let matches = matcher::ROWS.iter().map(|row| row.name);
+    let calls = calls::ROWS.iter().map(|row| row.name);
+    frames.chain(filters).chain(matches).chain(calls).chain(decisions::ROWS.iter().map(|row| row.name))
 }
 
-/// Each of the three that it calls is compiled apart: a row more in one leaves the counts of the others as they are.
+/// Each of those that it calls is compiled apart: a row more in one leaves the counts of the others as they are.
 fn run(row: usize, side: &str, times: u64) {
-    let (filters, matches) = (ROWS.len(), ROWS.len() + filters::ROWS.len());
+    let filters = ROWS.len();
+    let matches = filters + filters::ROWS.len();
+    let calls = matches + matcher::ROWS.len();
+    let decisions = calls + calls::ROWS.len();
     if row < filters {
         run_frames(&ROWS[row], side, times);
     } else if row < matches {
         run_filters(&filters::ROWS[row - filters], side, times);
-    } else {
+    } else if row < calls {
         run_matcher(&matcher::ROWS[row - matches], side, times);
+    } else if row < decisions {
+        run_calls(&calls::ROWS[row - calls], side, times);
+    } else {
+        run_decisions(&decisions::ROWS[row - decisions], side, times);
+    }
+}
+
+#[inline(never)]
+fn run_calls(row: &calls::Row, side: &str, times: u64) {
+    match side {
+        "driver" => calls::by_face(black_box(&DRIVER), row, times),
+        "library" => calls::by_face(black_box(&LIBRARY), row, times),
+        "bare" => calls::bare(row, times),
+        _ => repeat(times, || {
+            black_box(row);
+        }),
+    }
+}
+
+#[inline(never)]
+fn run_decisions(row: &decisions::Row, side: &str, times: u64) {
+    match side {
+        "driver" => decisions::by_plain_face(row, times),
+        "library" => decisions::by_library(row, times),
+        "bare" => decisions::bare(row, times),
+        _ => repeat(times, || {
+            black_box(row);
+        }),
     }
 }
 

@@ -1,0 +1,26 @@
+-- Every row of the table holds: the definitions compute what the outline says. Assumes nothing.
+use mathlib.Core.Path.{_≡_, refl, ap}
+use mathlib.Core.List.{List, _++_, map}
+use Rattle.filters.specs.Table.{fieldsOf}
+use Rattle.filters.specs.Words.{one, care, wordFrom, laidOf, badAt}
+use Rattle.filters.specs.Answers.{compileOf, codeMaskOf}
+use Rattle.frames.specs.Buffer.{bufferOf, dataLengthOf, dataOf}
+use Rattle.frames.specs.Building.{judgeOf, buildOf}
+use Rattle.matcher.specs.Match.{numbersIn, allFit, fitsEither, acceptsOf}
+use Rattle.matcher.specs.Words.{matchOf}
+use Rattle.box_actions.proofs.P12.{queued-before, wholes-before, queued-after, left-after, one-lost}
+use Rattle.outline_numbers.specs.Table.{Row, Answered, valueRows, boxRows, rows}
+
+abbrev pub definition : Row → Answered
+definition r = r .definition
+
+abbrev pub outline : Row → Answered
+outline r = r .outline
+
+-- the box runs as its model does, where the calls of P12 are computed
+box-rows : map definition boxRows ≡ map outline boxRows
+box-rows = rw (queued-before, wholes-before, queued-after, left-after, one-lost) refl
+
+pub numbers-hold : map definition rows ≡ map outline rows
+unfolding bufferOf dataLengthOf dataOf judgeOf buildOf fieldsOf one care wordFrom laidOf badAt compileOf codeMaskOf numbersIn allFit fitsEither acceptsOf matchOf
+numbers-hold = ap (λ (box : List Answered). map outline valueRows ++ box) box-rows

@@ -1,0 +1,106 @@
+/* Runs a script of calls on a fresh box and prints each answer, its bytes first (docs/ABI.md, "The box's script").
+   Standard input: the script in hexadecimal; spaces and line ends stand anywhere, `#` begins a remark. */
+#include <ctype.h>
+#include <stdio.h>
+#include <stdlib.h>
+#include "chherbolat.h"
+
+#define STATE_LENGTH 1376
+#define SCRIPT_LIMIT (1 << 20)
+
+static const size_t CALL_LENGTH[] = {0, 14, 1, 13, 1, 1 + STATE_LENGTH, 1};
+static const size_t ANSWER_LENGTH[] = {0, 2, 16, 1, 23, 1, STATE_LENGTH};
+static const char *const CALL[] = {"", "arrival", "take", "start", "step", "load", "state"};
+
+static void fail(const char *why) {
+    fprintf(stderr, "box_script: %s\n", why);
+    exit(2);
+}
+
+static int digit(int c) { return isdigit(c) ? c - '0' : toupper(c) - 'A' + 10; }
+
+static size_t read_script(uint8_t *script) {
+    size_t digits = 0;
+    int remark = 0;
+    for (int c = getchar(); c != EOF; c = getchar()) {
+        remark = c == '\n' ? 0 : remark || c == '#';
+        if (remark || isspace(c)) continue;
+        if (!isxdigit(c)) fail("a character that is no hexadecimal digit");
+        if (digits == 2 * SCRIPT_LIMIT) fail("the script is longer than 1 MiB");
+        script[digits / 2] = (uint8_t)(digits % 2 ? script[digits / 2] * 16 + digit(c) : digit(c));
+        digits++;
+    }
+    if (digits % 2) fail("an odd number of digits");
+    return digits / 2;
+}
+
+static void print_bytes(const uint8_t *bytes, size_t length) {
+    for (size_t i = 0; i < length; i++) printf("%02X", bytes[i]);
+}
+
+static void print_record(const uint8_t *record) {
+    if (record[0] == 0) {
+        printf("frame ");
+        print_bytes(record + 1, 13);
+    } else {
+        printf("%s", record[0] == 1 ? "Overrun" : "BusOff");
+    }
+}
+
+static void print_step(const uint8_t *answer) {
+    static const char *const COMMAND[] = {"", "abort", "release"};
+    if (answer[1] == 2) {
+        printf("finished, transmit wakes %u, error wakes %u, enable ", answer[17], answer[18]);
+        print_bytes(answer + 19, 4);
+        return;
+    }
+    printf("%s", answer[1] ? COMMAND[answer[2]] : answer[2] ? COMMAND[answer[2]] : "done");
+    if (answer[1] == 1) {
+        printf("%slost ", answer[2] ? ", " : "");
+        print_record(answer + 3);
+    }
+}
+
+static void print_answer(int call, const uint8_t *answer) {
+    static const char *const ARRIVAL[] = {"stored whole", "a mark", "not recorded"};
+    print_bytes(answer, call == 6 ? 0 : ANSWER_LENGTH[call]);
+    printf("%s%s: ", call == 6 ? "" : "  ", CALL[call]);
+    if (call == 6) {
+        print_bytes(answer, STATE_LENGTH);
+    } else if (answer[0] != 0) {
+        printf("refused %u", answer[0]);
+    } else if (call == 1) {
+        printf("%s", ARRIVAL[answer[1]]);
+    } else if (call == 2) {
+        if (answer[1]) print_record(answer + 2); else printf("nothing");
+    } else if (call == 3) {
+        printf("started");
+    } else if (call == 4) {
+        print_step(answer);
+    }
+    printf("\n");
+}
+
+int main(void) {
+    uint8_t *script = calloc(SCRIPT_LIMIT, 1);
+    if (!script) fail("no memory");
+    size_t length = read_script(script);
+    uint8_t none = 0;
+    chherbolat_answer told = chherbolat_box_script(script, length, &none, 0);
+    size_t needed = told.number == 6 ? told.value : 0;
+    uint8_t *answers = calloc(needed + 1, 1);
+    if (!answers) fail("no memory");
+    told = chherbolat_box_script(script, length, answers, needed);
+    if (told.number != 0) fail("refused");
+    const uint8_t *call = script, *answer = answers;
+    for (uint64_t i = 0; i < told.value; i++) {
+        print_answer(*call, answer);
+        answer += ANSWER_LENGTH[*call];
+        call += CALL_LENGTH[*call];
+    }
+    if (call != script + length) {
+        printf("the script ends here: what follows is no whole call\n");
+        return 1;
+    }
+    return 0;
+}
