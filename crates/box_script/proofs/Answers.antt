@@ -12,7 +12,7 @@ use Rattle.laws.specs.Said.{Said, refuses, gives}
 use Rattle.laws.specs.Tabulate.{part}
 use Rattle.refusals.specs.Table.{numberOf}
 use Rattle.refusals.specs.declared.Refusal.{Refusal}
-use Rattle.refusals.specs.declared.Refusal.the-variants.{IdentifierAboveLimit, InvalidDataLength, NonCompliantDlc, PatternLength, PatternByte, OutputTooShort, FilterKind, DrainRuns, NoDrainRuns, BrokenState, FileEnds, CountAboveLimit, BytesAfterEnd, WrongLength}
+use Rattle.refusals.specs.declared.Refusal.the-variants.{IdentifierAboveLimit, InvalidDataLength, NonCompliantDlc, PatternLength, PatternByte, OutputTooShort, FilterKind, DrainRuns, NoDrainRuns, BrokenState, FileEnds, CountAboveLimit, BytesAfterEnd, WrongLength, EmptyList}
 use Rattle.queue.specs.declared.Record.{Record}
 use Rattle.queue.specs.declared.Queue.{Queue}
 use Rattle.queue.specs.Ring as Q
@@ -33,7 +33,7 @@ use Rattle.box_script.proofs.Filled.{joined-long}
 
 -- a refusal's number is a byte
 pub number-small : (f : Refusal) → numberOf f < 256
-number-small IdentifierAboveLimit = omega arith
+number-small (IdentifierAboveLimit n) = omega arith
 number-small (InvalidDataLength n) = omega arith
 number-small (NonCompliantDlc n) = omega arith
 number-small (PatternLength n) = omega arith
@@ -47,6 +47,7 @@ number-small (FileEnds n) = omega arith
 number-small (CountAboveLimit n) = omega arith
 number-small (BytesAfterEnd n) = omega arith
 number-small (WrongLength n) = omega arith
+number-small EmptyList = omega arith
 
 pub arrival-bytes-long : (o : Said Outcome) → length (arrivalBytes o) ≡ 2
 arrival-bytes-long (gives o) = refl

@@ -484,7 +484,7 @@ impl SingleStandardFilter {
             («id_code» .0 ∷ bit «rtr_code» ∷ «first_code» ∷ «second_code» ∷ []) («id_mask» .0 ∷ bit «rtr_mask» ∷ «first_mask» ∷ «second_mask» ∷ []) ⌝ }
     {
         if !standard_within(id_code, id_mask) {
-            return refused(Refusal::IdentifierAboveLimit);
+            return refused(Refusal::IdentifierAboveLimit(0));
         }
         made(
             single_standard_word(id_code, rtr_code, first_code, second_code),
@@ -524,7 +524,7 @@ impl SingleExtendedFilter {
             («id_code» .0 ∷ bit «rtr_code» ∷ []) («id_mask» .0 ∷ bit «rtr_mask» ∷ []) ⌝ }
     {
         if !extended_within(id_code, id_mask) {
-            return refused(Refusal::IdentifierAboveLimit);
+            return refused(Refusal::IdentifierAboveLimit(0));
         }
         made(
             single_extended_word(id_code, rtr_code),
@@ -584,10 +584,10 @@ impl DualStandardFilter {
             («first_id_mask» .0 ∷ bit «first_rtr_mask» ∷ «first_payload_mask» ∷ «second_id_mask» .0 ∷ bit «second_rtr_mask» ∷ []) ⌝ }
     {
         if !standard_within(first_id_code, first_id_mask) {
-            return refused(Refusal::IdentifierAboveLimit);
+            return refused(Refusal::IdentifierAboveLimit(0));
         }
         if !standard_within(second_id_code, second_id_mask) {
-            return refused(Refusal::IdentifierAboveLimit);
+            return refused(Refusal::IdentifierAboveLimit(0));
         }
         made(
             dual_standard_word(

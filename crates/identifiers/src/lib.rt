@@ -32,7 +32,7 @@ impl StandardId {
         if raw <= 0x7FF {
             StandardMade::Made(StandardId(raw))
         } else {
-            StandardMade::Refused(Refusal::IdentifierAboveLimit)
+            StandardMade::Refused(Refusal::IdentifierAboveLimit(0))
         }
     }
 
@@ -50,7 +50,7 @@ impl ExtendedId {
         if raw <= 0x1FFF_FFFF {
             ExtendedMade::Made(ExtendedId(raw))
         } else {
-            ExtendedMade::Refused(Refusal::IdentifierAboveLimit)
+            ExtendedMade::Refused(Refusal::IdentifierAboveLimit(0))
         }
     }
 
@@ -69,7 +69,7 @@ impl ExtendedId {
         if raw <= 0x1FFF_FFFF {
             StandardMade::Made(StandardId((raw >> 18) as u16))
         } else {
-            StandardMade::Refused(Refusal::IdentifierAboveLimit)
+            StandardMade::Refused(Refusal::IdentifierAboveLimit(0))
         }
     }
 }

@@ -1,10 +1,10 @@
-// The refusals of the outline, in the order of its table, each with what it carries.
+// The refusals of the outline and of its change requests, in the order of their numbers, each with what it carries.
 ghost use mathlib.Core.Path.{_≡_};
 ghost use Rattle.refusals.specs.Table.{numberOf, carriedOf};
 
 pub enum Refusal {
-    // An identifier above its limit.
-    IdentifierAboveLimit,
+    // An identifier above its limit: its index in a list, or 0.
+    IdentifierAboveLimit(usize),
     // Data longer than 8, or a remote frame with data: the length modulo 256.
     InvalidDataLength(u8),
     // A length code above 15, or one that does not fit the data: the code modulo 256.
@@ -31,6 +31,8 @@ pub enum Refusal {
     BytesAfterEnd(usize),
     // Entries that are not whole, or an exported slice of the wrong length: the section, or the argument from 0.
     WrongLength(usize),
+    // A list with no entry.
+    EmptyList,
 }
 
 impl Refusal {
@@ -39,7 +41,7 @@ impl Refusal {
         ensures { λ r. ⌜ r ≡ numberOf self ⌝ }
     {
         match self {
-            Refusal::IdentifierAboveLimit => 1,
+            Refusal::IdentifierAboveLimit(_) => 1,
             Refusal::InvalidDataLength(_) => 2,
             Refusal::NonCompliantDlc(_) => 3,
             Refusal::PatternLength(_) => 4,
@@ -53,6 +55,7 @@ impl Refusal {
             Refusal::CountAboveLimit(_) => 12,
             Refusal::BytesAfterEnd(_) => 13,
             Refusal::WrongLength(_) => 14,
+            Refusal::EmptyList => 15,
         }
     }
 
@@ -61,7 +64,7 @@ impl Refusal {
         ensures { λ r. ⌜ r ≡ carriedOf self ⌝ }
     {
         match self {
-            Refusal::IdentifierAboveLimit => 0,
+            Refusal::IdentifierAboveLimit(index) => index as u64,
             Refusal::InvalidDataLength(length) => length as u64,
             Refusal::NonCompliantDlc(code) => code as u64,
             Refusal::PatternLength(field) => field as u64,
@@ -75,6 +78,7 @@ impl Refusal {
             Refusal::CountAboveLimit(at) => at as u64,
             Refusal::BytesAfterEnd(offset) => offset as u64,
             Refusal::WrongLength(at) => at as u64,
+            Refusal::EmptyList => 0,
         }
     }
 }

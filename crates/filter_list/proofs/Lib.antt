@@ -1,0 +1,5 @@
+pub mod Pattern
+pub mod Folds
+pub mod Counted
+pub mod Answers
+pub mod Only
