@@ -74,6 +74,10 @@ chherbolat_answer chherbolat_dual_extended_filter_new_from_code_mask(uint16_t fi
                                                                      uint16_t first_mask, uint16_t second_mask,
                                                                      uint8_t *registers, size_t registers_length);
 
+chherbolat_answer chherbolat_filter_from_list(bool extended, const uint32_t *list, size_t list_length,
+                                              uint8_t *pattern, size_t pattern_length, uint8_t *registers,
+                                              size_t registers_length);
+
 chherbolat_answer chherbolat_matcher_accepts(uint8_t kind, const uint8_t *registers, size_t registers_length,
                                              const uint8_t *frame, size_t frame_length);
 

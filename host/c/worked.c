@@ -200,6 +200,40 @@ static void filters_by_code_and_mask(void)
     wrote("dual extended", bytes("00 00 00 78 FF 87 FF 87"));
 }
 
+/* The pattern goes into what is lent, and the registers behind it. */
+static chherbolat_answer from_list(bool extended, const uint32_t *list, size_t list_length, size_t pattern_length,
+                                   size_t registers_length)
+{
+    uint8_t *pattern = lent();
+    return chherbolat_filter_from_list(extended, list, list_length, pattern, pattern_length, pattern + pattern_length,
+                                       registers_length);
+}
+
+static void filters_from_lists(void)
+{
+    static const uint32_t two[] = {0x100, 0x104}, above[] = {0x100, 0x800, 0x801}, top[] = {0x1FFFFFFF, 0x1FFFFFFE};
+    run written = characters("00100000x00");
+    answers("list", from_list(false, two, 2, 11, REGISTERS), 0, 2);
+    memcpy(written.bytes + 11, bytes("20 00 00 00 00 9F FF FF").bytes, REGISTERS);
+    written.length += REGISTERS;
+    wrote("list", written);
+    answers("list, ten characters", from_list(false, two, 2, 10, REGISTERS), 6, 11);
+    wrote_nothing("list, ten characters");
+    answers("list, above the limit", from_list(false, above, 3, 10, REGISTERS), 1, 1);
+    wrote_nothing("list, above the limit");
+    answers("list, none", from_list(false, two, 0, 10, REGISTERS), 15, 0);
+    wrote_nothing("list, none");
+    answers("list, seven registers", from_list(false, two, 0, 10, 7), 14, 3);
+    wrote_nothing("list, seven registers");
+    answers("list, extended", from_list(true, top, 2, 29, REGISTERS), 0, 2);
+    written = characters("1111111111111111111111111111x");
+    memcpy(written.bytes + 29, bytes("FF FF FF F0 00 00 00 0F").bytes, REGISTERS);
+    written.length += REGISTERS;
+    wrote("list, extended", written);
+    answers("list, 28 characters", from_list(true, top, 2, 28, REGISTERS), 6, 29);
+    wrote_nothing("list, 28 characters");
+}
+
 static void matching(void)
 {
     run registers = bytes("00 00 00 00 FF DF FF FF");
@@ -277,6 +311,7 @@ int main(void)
     reading();
     filters_by_patterns();
     filters_by_code_and_mask();
+    filters_from_lists();
     matching();
     decisions();
     box();

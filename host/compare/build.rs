@@ -2,11 +2,12 @@
 //! archive may be missing.
 use std::{env, path::Path};
 
-const ARCHIVES: [&str; 8] = [
+const ARCHIVES: [&str; 9] = [
     "libexports_identifiers.a",
     "libexports_building.a",
     "libexports_frames.a",
     "libexports_filters.a",
+    "libexports_list.a",
     "libexports_matcher.a",
     "libexports_files.a",
     "libexports_report.a",

@@ -3,6 +3,7 @@ use oracle::{answer::Answer, face::Face};
 
 mod files;
 mod filters;
+pub mod lists;
 pub mod receive_box;
 
 pub const LIBRARY: Face = Face {

@@ -8,6 +8,7 @@ pub mod course;
 pub mod driver;
 pub mod face;
 pub mod frame_files;
+pub mod lists;
 pub mod matcher;
 pub mod outcome;
 pub mod places;

@@ -15,6 +15,7 @@ use original::twai::{EspTwaiFrame, probe};
 mod calls;
 mod decisions;
 mod filters;
+mod lists;
 mod matcher;
 
 struct Row {
@@ -96,7 +97,9 @@ fn names() -> impl Iterator<Item = &'static str> {
     let filters = filters::ROWS.iter().map(|row| row.name);
     let matches = matcher::ROWS.iter().map(|row| row.name);
     let calls = calls::ROWS.iter().map(|row| row.name);
-    frames.chain(filters).chain(matches).chain(calls).chain(decisions::ROWS.iter().map(|row| row.name))
+    let decisions = decisions::ROWS.iter().map(|row| row.name);
+    let lists = lists::ROWS.iter().map(|row| row.name);
+    frames.chain(filters).chain(matches).chain(calls).chain(decisions).chain(lists)
 }
 
 /// Each of those that it calls is compiled apart: a row more in one leaves the counts of the others as they are.
@@ -105,6 +108,7 @@ fn run(row: usize, side: &str, times: u64) {
     let matches = filters + filters::ROWS.len();
     let calls = matches + matcher::ROWS.len();
     let decisions = calls + calls::ROWS.len();
+    let lists = decisions + decisions::ROWS.len();
     if row < filters {
         run_frames(&ROWS[row], side, times);
     } else if row < matches {
@@ -113,8 +117,10 @@ fn run(row: usize, side: &str, times: u64) {
         run_matcher(&matcher::ROWS[row - matches], side, times);
     } else if row < decisions {
         run_calls(&calls::ROWS[row - calls], side, times);
-    } else {
+    } else if row < lists {
         run_decisions(&decisions::ROWS[row - decisions], side, times);
+    } else {
+        run_lists(&lists::ROWS[row - lists], side, times);
     }
 }
 
@@ -136,6 +142,18 @@ fn run_decisions(row: &decisions::Row, side: &str, times: u64) {
         "driver" => decisions::by_plain_face(row, times),
         "library" => decisions::by_library(row, times),
         "bare" => decisions::bare(row, times),
+        _ => repeat(times, || {
+            black_box(row);
+        }),
+    }
+}
+
+#[inline(never)]
+fn run_lists(row: &lists::Row, side: &str, times: u64) {
+    match side {
+        "driver" => lists::by_plain_face(row, times),
+        "library" => lists::by_library(row, times),
+        "bare" => lists::bare(row, times),
         _ => repeat(times, || {
             black_box(row);
         }),

@@ -1,0 +1,86 @@
+// Reads a list of identifiers on standard input, at most one byte more than the longest, and prints its filter. The argument is the format.
+use libc::STDERR_FILENO;
+use libc::STDIN_FILENO;
+use libc::STDOUT_FILENO;
+
+enum Input {
+    Read(usize),
+    Failed,
+}
+
+// Standard input up to its end, or as much as the buffer holds.
+fn read_input(buffer: &mut [u8]) -> Input {
+    let mut done: usize = 0;
+    while done < buffer.len() {
+        let got = libc::read(STDIN_FILENO, &mut buffer[done..]);
+        if got < 0 {
+            return Input::Failed;
+        }
+        let more = io::count(got, &buffer[done..]);
+        if more == 0 {
+            return Input::Read(done);
+        }
+        done += more;
+    }
+    Input::Read(done)
+}
+
+// No text is longer than the buffer.
+fn print_text(extended: bool, list: &[u8]) {
+    let mut text = [0u8; 128];
+    let answer = filter_text::filter_text(extended, list, &mut text);
+    let length = answer.value as usize;
+    if answer.number == 0 {
+        if length <= 128 {
+            io::write_all(STDOUT_FILENO, &text[..length]);
+        }
+    }
+}
+
+fn print_filter(extended: bool) {
+    let mut list = [0u8; 65537];
+    match read_input(&mut list) {
+        Input::Read(length) => {
+            if length <= 65537 {
+                print_text(extended, &list[..length]);
+            }
+        }
+        Input::Failed => {
+            io::write_all(STDERR_FILENO, b"standard input can't be read\n");
+        }
+    }
+}
+
+fn same(word: &[u8], other: &[u8]) -> bool {
+    if word.len() != other.len() {
+        return false;
+    }
+    let mut i: usize = 0;
+    while i < word.len() {
+        if word[i] != other[i] {
+            return false;
+        }
+        i += 1;
+    }
+    true
+}
+
+fn print_by(format: &[u8]) {
+    if same(format, b"standard") {
+        print_filter(false);
+        return;
+    }
+    if same(format, b"extended") {
+        print_filter(true);
+        return;
+    }
+    io::write_all(STDERR_FILENO, b"the format is standard or extended\n");
+}
+
+fn main() {
+    let mut word = [0u8; 16];
+    let length = os::arg(1, &mut word);
+    if length <= 16 {
+        print_by(&word[..length]);
+    }
+}

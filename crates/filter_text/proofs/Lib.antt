@@ -1,0 +1,6 @@
+pub mod Scan
+pub mod Split
+pub mod Within
+pub mod Page
+pub mod Listed
+pub mod Worked

@@ -1,0 +1,35 @@
+-- `filter_text::put_fault` meets its contract: three texts, each laid behind the last. Assumes nothing.
+use native.Mathlib.Omega.{arith}
+use borrow.Author.Needs.{needs}
+use Rattle.filter_text.proofs.Page.{decimal-long, fault-put}
+use Rattle.filter_text.proofs.put_fault.Statement.{statement}
+use Rattle.filter_text.proofs.put_fault.Tie as tie
+
+slice-aggregate-put-text : tie.Need-slice-aggregate-put-text
+slice-aggregate-put-text c = search needs
+
+put-text-requires : tie.Need-put-text-requires
+put-text-requires c κs = search needs
+
+put-decimal-requires : tie.Need-put-decimal-requires
+put-decimal-requires c κs = omega (arith, c .before .before .before .put-text .ensures .0, decimal-long 4 (c .before .before .before .before .before .before .before .before .args .number) (omega (arith, c .before .before .before .before .before .before .before .before .pre .0)), c .before .before .before .put-text .kept .0, c .before .before .before .before .before .before .before .before .pre .2)
+
+put-text-requires-2 : tie.Need-put-text-requires-2
+put-text-requires-2 c κs = omega (arith, c .before .before .before .before .before .before .before .put-text .ensures .0, c .before .before .before .put-decimal .ensures .0, decimal-long 4 (c .before .before .before .before .before .before .before .before .before .before .before .before .args .number) (omega (arith, c .before .before .before .before .before .before .before .before .before .before .before .before .pre .0)), c .before .before .before .before .before .before .before .put-text .kept .0, c .before .before .before .put-decimal .kept .0, c .before .before .before .before .before .before .before .before .before .before .before .before .pre .1, c .before .before .before .before .before .before .before .before .before .before .before .before .pre .2)
+
+same-length : tie.Need-same-length
+same-length c = search needs
+
+returns : tie.Need-returns
+returns c = fault-put (c .before .before .before .before .before .before .before .before .before .before .before .before .before .before .before .args .number) _ _ _ (c .before .before .before .before .before .before .before .before .before .before .before .before .before .before .before .args .fault .now) (c .before .before .before .before .before .before .before .before .before .before .before .before .before .before .before .args .page .now) _ _ _ (c .before .before .before .before .before .before .before .before .before .before .before .before .before .before .before .pre .0) (c .before .before .before .before .before .before .before .before .before .before .before .before .before .before .before .pre .1) (c .before .before .before .before .before .before .before .before .before .before .put-text .ensures .0) (c .before .before .before .before .before .before .before .before .before .before .put-text .ensures .1) (c .before .before .before .before .before .before .put-decimal .ensures .0) (c .before .before .before .before .before .before .put-decimal .ensures .1) (c .before .before .put-text2 .ensures .0) (c .before .before .put-text2 .ensures .1)
+
+pub put-fault-spec : {M : Type 1} → statement M
+put-fault-spec =
+    tie.close
+    (tie.spec
+    slice-aggregate-put-text
+    put-text-requires
+    put-decimal-requires
+    put-text-requires-2
+    same-length
+    returns)
