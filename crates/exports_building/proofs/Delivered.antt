@@ -17,7 +17,7 @@ use Rattle.identifiers.specs.Limits.{limitOf, isExtended, rawOf}
 use Rattle.identifiers.specs.declared.Id.the-variants.{Standard, Extended}
 use Rattle.frames.specs.declared.Identified.the-variants.{Read, Refused}
 use Rattle.frames.specs.Buffer.{Frame}
-use Rattle.frames.specs.Building.{judgeOf, buildOf, asked}
+use Rattle.frame_building.specs.Building.{judgeOf, buildOf, asked}
 use Rattle.exports_building.specs.Building.{idFrom, plain}
 
 above : (format : Bool) (id : ℕ) (remote : Bool) (code length : ℕ) → limitOf format < id → judgeOf format id remote code length ≡ refuses 1 0

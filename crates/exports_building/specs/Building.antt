@@ -9,9 +9,9 @@ use Rattle.laws.specs.Said.{Said}
 use Rattle.refusals.specs.declared.Refusal.the-variants.{IdentifierAboveLimit}
 use Rattle.identifiers.specs.declared.Id.the-variants.{Standard, Extended}
 use Rattle.frames.specs.Buffer.{Frame}
-use Rattle.frames.specs.Building.{buildOf}
 use Rattle.frames.specs.declared.Identified.{Identified}
 use Rattle.frames.specs.declared.Identified.the-variants.{Read, Refused}
+use Rattle.frame_building.specs.Building.{buildOf}
 use Rattle.answers.specs.Answers.{delivering, deliveryLeaves}
 
 -- the identifier of a format and a number: a standard number that no u16 holds is none

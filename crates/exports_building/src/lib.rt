@@ -3,12 +3,12 @@ ghost use mathlib.Core.Path.{_≡_};
 ghost use mathlib.Core.Bool.{true, false};
 ghost use lib.ListN.{length};
 ghost use Rattle.laws.specs.Laid.{written};
-ghost use Rattle.frames.specs.Building.{builtSaid};
+ghost use Rattle.frame_building.specs.Building.{builtSaid};
 ghost use Rattle.answers.specs.Answers.{answerOf};
 ghost use Rattle.exports_building.specs.Building.{idFrom, plain, plainData, building, buildingLeaves};
 use answers::Answer;
-use frames::Building;
-use frames::Built;
+use frame_building::Building;
+use frame_building::Built;
 use frames::Identified;
 use identifiers::ExtendedId;
 use identifiers::Id;
@@ -60,7 +60,7 @@ pub extern "C" fn chherbolat_new_from_parameters(
     }
     match id_of(extended, id) {
         Identified::Read(id) => deliver(
-            frames::new_from_parameters(id, remote, own, dlc, data),
+            frame_building::new_from_parameters(id, remote, own, dlc, data),
             frame,
         ),
         Identified::Refused(refusal) => answers::refused(refusal),
@@ -76,7 +76,7 @@ pub extern "C" fn chherbolat_new(extended: bool, id: u32, data: &[u8], frame: &m
         return answers::wrong_length(3);
     }
     match id_of(extended, id) {
-        Identified::Read(id) => deliver(frames::new(id, data), frame),
+        Identified::Read(id) => deliver(frame_building::new(id, data), frame),
         Identified::Refused(refusal) => answers::refused(refusal),
     }
 }
@@ -95,7 +95,7 @@ pub extern "C" fn chherbolat_new_self_reception(
         return answers::wrong_length(3);
     }
     match id_of(extended, id) {
-        Identified::Read(id) => deliver(frames::new_self_reception(id, data), frame),
+        Identified::Read(id) => deliver(frame_building::new_self_reception(id, data), frame),
         Identified::Refused(refusal) => answers::refused(refusal),
     }
 }

@@ -19,9 +19,10 @@ use Rattle.filters.specs.Words.{isCharacter}
 use Rattle.filters.specs.Answers.{answered, compileOf}
 use Rattle.filters.specs.Meaning.{allCharacters, charactersIn, patternsIn}
 use Rattle.filters.proofs.Back.{patterns-back}
-use Rattle.frames.specs.Buffer.{Frame, bufferOf}
-use Rattle.frames.specs.Building.{judged}
-use Rattle.frames.proofs.RoundTrip.{reads-back}
+use Rattle.frames.specs.Buffer.{Frame}
+use Rattle.frame_building.specs.Buffer.{bufferOf}
+use Rattle.frame_building.specs.Building.{judged}
+use Rattle.frame_building.proofs.RoundTrip.{reads-back}
 use Rattle.matcher.specs.Words.{matchOf}
 use Rattle.filter_list.specs.Pattern.{widthOf, allHave, characterAt, downFrom, patternOf, singleOf, withIdentifier}
 use Rattle.filter_list.specs.Answers.{firstAbove, registersFor, idPositions, throughOf, registersOfList, listingOf, listedOf, leaves}

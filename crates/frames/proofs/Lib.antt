@@ -1,5 +1,3 @@
 pub mod Buffer
-pub mod Judged
-pub mod Fields
-pub mod RoundTrip
+pub mod Reading
 pub mod Only

@@ -1,40 +1,15 @@
--- An answer of building, or of reading the identifier, is told by what is said of it, so two that meet a contract are equal.
--- Assumes nothing.
+-- An answer of reading the identifier is told by what is said of it, so two that meet a contract are equal. Assumes nothing.
 use Prim.Native.Nat.{ℕ}
 use mathlib.Core.Path.{_≡_, refl, ap}
 use mathlib.Core.Bool.{Bool, true, false}
-use mathlib.Core.List.{List}
 use Rattle.laws.specs.Said.{Said, refuses, gives}
 use Rattle.laws.proofs.Only.{only}
 use Rattle.refusals.proofs.Only.{refusalAt, refusal-at}
 use Rattle.identifiers.specs.declared.Id.{Id}
 use Rattle.identifiers.specs.declared.Id.the-variants.{Standard, Extended}
-use Rattle.frames.specs.Building.{buildingSaid, builtSaid}
 use Rattle.frames.specs.Reading.{identifiedSaid}
-use Rattle.frames.specs.declared.Building.{Building}
-use Rattle.frames.specs.declared.Building.the-variants as building
-use Rattle.frames.specs.declared.Built.{Built}
 use Rattle.frames.specs.declared.Identified.{Identified}
 use Rattle.frames.specs.declared.Identified.the-variants as identified
-
-buildingBack : Said ℕ → Building
-buildingBack (gives n) = building.Made
-buildingBack (refuses k n) = building.Refused (refusalAt k n)
-
-building-back : (r : Building) → buildingBack (buildingSaid r) ≡ r
-unfolding buildingBack
-building-back building.Made = refl
-building-back (building.Refused f) = ap building.Refused (refusal-at f)
-
-builtBack : Said ℕ × List ℕ → Built
-builtBack p = record { answer = buildingBack (p .0); frame = p .1 }
-
-built-back : (r : Built) → builtBack (builtSaid r) ≡ r
-unfolding builtBack
-built-back r = rw (building-back (r .answer))
-
-pub only-built : (r s : Built) → builtSaid r ≡ builtSaid s → r ≡ s
-only-built = only builtSaid builtBack built-back
 
 idBack : Bool → ℕ → Id
 idBack false raw = Standard (record { 0 = raw })

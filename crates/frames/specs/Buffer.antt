@@ -1,12 +1,12 @@
--- The 13-byte frame buffer, field by field: where building puts what a frame says, and where reading finds it.
+-- The 13-byte frame buffer, field by field: the rows that building and reading share, and what a buffer says.
 -- Source: ESP32-C3 manual, TWAI chapter, frame information, frame identifier and frame data (the SJA1000 sheet's transmit and receive buffer);
 -- the outline, "Frame buffer".
-use Prim.Native.Nat.{ℕ, _+_, _-_, min}
+use Prim.Native.Nat.{ℕ, _+_, min}
 use mathlib.Core.Bool.{Bool, true, false, cond}
-use mathlib.Core.List.{List, [], _∷_, _++_}
+use mathlib.Core.List.{List, [], _∷_}
 use lib.Dec.{eqb}
-use lib.ListN.{length, getD, take, drop, replicate}
-use Rattle.laws.specs.Row.{pack, unpack, regroup, bytes, bit}
+use lib.ListN.{getD, take, drop}
+use Rattle.laws.specs.Row.{unpack, regroup, bytes}
 use Rattle.laws.specs.Tabulate.{part}
 
 -- byte 0: frame format (1 extended), remote request, reserved, self-reception, length code
@@ -34,18 +34,6 @@ pub record Frame : Type 0 where
   pub code : ℕ
   pub id : ℕ
   pub payload : List ℕ
-
-abbrev pub infoByte : Bool → Bool → Bool → ℕ → ℕ
-infoByte extended remote own code = pack infoRow (bit extended ∷ bit remote ∷ 0 ∷ bit own ∷ code ∷ [])
-
-abbrev pub idBytesOf : Bool → ℕ → List ℕ
-idBytesOf format id = regroup (idRow format) (bytes (idBytes format)) (id ∷ 0 ∷ [])
-
--- the buffer of a frame: all that no field takes is zero
-unfoldable pub bufferOf : Frame → List ℕ
-bufferOf f =
-    infoByte (f .extended) (f .remote) (f .own) (f .code)
-    ∷ (idBytesOf (f .extended) (f .id) ++ (f .payload ++ replicate (13 - (dataStart (f .extended) + length (f .payload))) 0))
 
 -- what a buffer says: the fields of byte 0
 abbrev pub infoOf : List ℕ → List ℕ

@@ -1,4 +1,2 @@
 pub mod Buffer
-pub mod Building
 pub mod Reading
-pub mod Clean

@@ -4,8 +4,9 @@ use mathlib.Core.List.{List, _++_, map}
 use Rattle.filters.specs.Table.{fieldsOf}
 use Rattle.filters.specs.Words.{one, care, wordFrom, laidOf, badAt}
 use Rattle.filters.specs.Answers.{compileOf, codeMaskOf}
-use Rattle.frames.specs.Buffer.{bufferOf, dataLengthOf, dataOf}
-use Rattle.frames.specs.Building.{judgeOf, buildOf}
+use Rattle.frames.specs.Buffer.{dataLengthOf, dataOf}
+use Rattle.frame_building.specs.Buffer.{bufferOf}
+use Rattle.frame_building.specs.Building.{judgeOf, buildOf}
 use Rattle.matcher.specs.Match.{numbersIn, allFit, fitsEither, acceptsOf}
 use Rattle.matcher.specs.Words.{matchOf}
 use Rattle.box_actions.proofs.P12.{queued-before, wholes-before, queued-after, left-after, one-lost}

@@ -9,8 +9,9 @@ use Rattle.laws.specs.Tabulate.{part}
 use Rattle.identifiers.specs.Answers.{baseOf}
 use Rattle.filters.specs.Table.{singleStandard, dualStandard, dualExtended}
 use Rattle.filters.specs.Answers.{compileOf, codeMaskOf, bothWithin}
-use Rattle.frames.specs.Buffer.{Frame, bufferOf, dataOf}
-use Rattle.frames.specs.Building.{buildOf, judged}
+use Rattle.frames.specs.Buffer.{Frame, dataOf}
+use Rattle.frame_building.specs.Buffer.{bufferOf}
+use Rattle.frame_building.specs.Building.{buildOf, judged}
 use Rattle.matcher.specs.Words.{matchOf}
 use Rattle.box_actions.specs.P12.{boxBefore, drainDid, boxAfter, queuedIn, wholesIn, lostBy}
 use Rattle.answers.specs.Answers.{flagSaid}

@@ -4,7 +4,7 @@ use mathlib.Core.Bool.{false}
 use lib.ListN.{length}
 use borrow.Author.Needs.{needs}
 use Rattle.laws.specs.Laid.{written}
-use Rattle.frames.specs.Building.{buildOf}
+use Rattle.frame_building.specs.Building.{buildOf}
 use Rattle.answers.proofs.Whole.{sized-no, delivered}
 use Rattle.exports_building.specs.Building.{plain}
 use Rattle.exports_building.proofs.Delivered.{asked-plain, none-built}

@@ -1,8 +1,8 @@
--- `frames::judge` meets its contract: its three tests are those of the definition, in its order. Assumes nothing.
+-- `frame_building::judge` meets its contract: its three tests are those of the definition, in its order. Assumes nothing.
 use borrow.Author.Needs.{needs}
-use Rattle.frames.specs.Building.{judgeOf}
-use Rattle.frames.proofs.judge.Statement.{statement}
-use Rattle.frames.proofs.judge.Tie as tie
+use Rattle.frame_building.specs.Building.{judgeOf}
+use Rattle.frame_building.proofs.judge.Statement.{statement}
+use Rattle.frame_building.proofs.judge.Tie as tie
 
 within-limit-requires : tie.Need-within-limit-requires
 within-limit-requires c κs = search needs

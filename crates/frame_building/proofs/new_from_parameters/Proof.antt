@@ -1,14 +1,15 @@
--- `frames::new_from_parameters` meets its contract: what was judged good is laid out; a refusal leaves zeros. Assumes nothing.
+-- `frame_building::new_from_parameters` meets its contract: what was judged good is laid out; a refusal leaves zeros. Assumes nothing.
 use Prim.Native.Nat.{_%_}
 use mathlib.Core.Path.{_≡_, sym, ap, _∙_}
 use native.Mathlib.Omega.{arith}
 use borrow.Author.Needs.{needs}
 use Rattle.identifiers.specs.Limits.{isExtended}
-use Rattle.frames.specs.Building.{buildOf, buildingSaid, asked}
-use Rattle.frames.proofs.Judged.{judged-good}
-use Rattle.frames.proofs.Buffer.{start-bound, filled}
-use Rattle.frames.proofs.new_from_parameters.Statement.{statement}
-use Rattle.frames.proofs.new_from_parameters.Tie as tie
+use Rattle.frames.proofs.Buffer.{start-bound}
+use Rattle.frame_building.specs.Building.{buildOf, buildingSaid, asked}
+use Rattle.frame_building.proofs.Judged.{judged-good}
+use Rattle.frame_building.proofs.Buffer.{filled}
+use Rattle.frame_building.proofs.new_from_parameters.Statement.{statement}
+use Rattle.frame_building.proofs.new_from_parameters.Tie as tie
 
 judge-requires : tie.Need-judge-requires
 judge-requires c κs = search needs

@@ -8,21 +8,18 @@ use lib.ListN.{length, getD, drop, replicate, length-append}
 use lib.Seq.{take-at, drop-at, take-append-seam, drop-append-seam, drop-drop}
 use native.Mathlib.Omega.{arith}
 use borrow.Author.Tests.{ltb-true, ltb-false}
-use Rattle.laws.specs.Row.{width, regroup, bytes, bit, Fit, none, field}
+use Rattle.laws.specs.Row.{regroup, bytes, bit, Fit, none, field}
 use Rattle.laws.specs.Tabulate.{part}
 use Rattle.laws.proofs.Row.{unpack-pack, regroup-back}
 use Rattle.laws.proofs.Tabulate.{part-is}
 use Rattle.laws.specs.Said.{gives}
 use Rattle.identifiers.specs.Limits.{limitOf}
-use Rattle.frames.specs.Buffer.{Frame, idRow, idBytes, dataStart, idBytesOf, bufferOf, infoOf, extendedOf, remoteOf, ownOf, codeOf, idFields, idIn, idOf, dataLengthOf, dataOf}
-use Rattle.frames.specs.Building.{judged}
-use Rattle.frames.proofs.Buffer.{ids-length}
-use Rattle.frames.proofs.Judged.{Good, judged-good}
-
--- both formats' rows are as wide as their bytes
-pub row-width : (format : Bool) → width (idRow format) ≡ width (bytes (idBytes format))
-row-width false = refl
-row-width true = refl
+use Rattle.frames.specs.Buffer.{Frame, idRow, idBytes, dataStart, infoOf, extendedOf, remoteOf, ownOf, codeOf, idFields, idIn, idOf, dataLengthOf, dataOf}
+use Rattle.frames.proofs.Reading.{row-width}
+use Rattle.frame_building.specs.Buffer.{idBytesOf, bufferOf}
+use Rattle.frame_building.specs.Building.{judged}
+use Rattle.frame_building.proofs.Buffer.{ids-length}
+use Rattle.frame_building.proofs.Judged.{Good, judged-good}
 
 bit-below : (b : Bool) → bit b < 2 ^ 1
 bit-below false = omega arith

@@ -9,10 +9,11 @@ use Rattle.laws.specs.Said.{Said, refuses, gives, accepted}
 use Rattle.refusals.specs.Table.{refusalSaid}
 use Rattle.identifiers.specs.declared.Id.{Id}
 use Rattle.identifiers.specs.Limits.{limitOf, isExtended, rawOf}
-use Rattle.frames.specs.Buffer.{Frame, bufferOf}
-use Rattle.frames.specs.declared.Building.{Building}
-use Rattle.frames.specs.declared.Building.the-variants.{Made, Refused}
-use Rattle.frames.specs.declared.Built.{Built}
+use Rattle.frames.specs.Buffer.{Frame}
+use Rattle.frame_building.specs.Buffer.{bufferOf}
+use Rattle.frame_building.specs.declared.Building.{Building}
+use Rattle.frame_building.specs.declared.Building.the-variants.{Made, Refused}
+use Rattle.frame_building.specs.declared.Built.{Built}
 
 -- data longer than 8, or a remote frame with data
 abbrev pub invalidLength : Bool → ℕ → Bool

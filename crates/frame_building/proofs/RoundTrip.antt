@@ -8,20 +8,20 @@ use lib.Dec.{eqb}
 use lib.ListN.{length, getD, drop, replicate, length-drop, take-append-drop}
 use lib.Seq.{length-take-le, drop-cons, drop-drop}
 use native.Mathlib.Omega.{arith}
-use borrow.Author.Tests.{eqb-true, eqb-false, le-leb}
+use borrow.Author.Tests.{eqb-true, eqb-false}
 use Rattle.laws.specs.Said.{gives}
-use Rattle.laws.specs.Row.{pack, regroup, bit, bytes, Fit, none, field}
+use Rattle.laws.specs.Row.{pack, regroup, bit, bytes}
 use Rattle.laws.specs.Tabulate.{part, Bytes}
-use Rattle.laws.proofs.Row.{pack-unpack, regroup-back, regroup-fits}
-use Rattle.laws.proofs.Tabulate.{part-is, bytes-fit}
-use Rattle.identifiers.specs.Limits.{limitOf}
-use Rattle.frames.specs.Buffer.{Frame, infoRow, idRow, idBytes, infoByte, idBytesOf, bufferOf, frameOf, infoOf, extendedOf, remoteOf, ownOf, codeOf, idFields, idIn, idOf, dataLengthOf, dataOffsetOf, dataOf}
-use Rattle.frames.specs.Building.{judged, buildOf}
-use Rattle.frames.specs.Clean.{Clean}
-use Rattle.frames.specs.Reading.{identifierOf}
+use Rattle.laws.proofs.Row.{pack-unpack, regroup-back}
+use Rattle.laws.proofs.Tabulate.{part-is}
+use Rattle.frames.specs.Buffer.{Frame, infoRow, idRow, idBytes, frameOf, infoOf, extendedOf, remoteOf, ownOf, codeOf, idFields, idOf, dataLengthOf, dataOffsetOf, dataOf}
 use Rattle.frames.proofs.Buffer.{start-bound, data-bound, used-bound}
-use Rattle.frames.proofs.Judged.{good-judged}
-use Rattle.frames.proofs.Fields.{good, built-info, built-extended, built-remote, built-own, built-code, built-id, built-spare, built-length, built-data, built-rest, row-width}
+use Rattle.frames.proofs.Reading.{row-width, two-fields, bytes-row-fit, id-within}
+use Rattle.frame_building.specs.Buffer.{infoByte, idBytesOf, bufferOf}
+use Rattle.frame_building.specs.Building.{judged, buildOf}
+use Rattle.frame_building.specs.Clean.{Clean}
+use Rattle.frame_building.proofs.Judged.{good-judged}
+use Rattle.frame_building.proofs.Fields.{good, built-info, built-extended, built-remote, built-own, built-code, built-id, built-spare, built-length, built-data, built-rest}
 
 same-frame : (f g : Frame) → f .extended ≡ g .extended → f .remote ≡ g .remote → f .own ≡ g .own → f .code ≡ g .code → f .id ≡ g .id
     → f .payload ≡ g .payload → f ≡ g
@@ -63,29 +63,6 @@ read-bit x h = by (eqb x 1) refl
     by : (one : Bool) → eqb x 1 ≡ one → bit (eqb x 1) ≡ x
     by true e = rw e (sym (eqb-true x 1 e))
     by false e = rw e (zero-is x h (eqb-false x 1 e))
-
-two-fields : (format : Bool) (b : List ℕ) → idFields format b ≡ idIn format b ∷ getD (idFields format b) 1 0 ∷ []
-two-fields false b = refl
-two-fields true b = refl
-
-fit-limit : (format : Bool) (id spare : ℕ) → Fit (idRow format) (id ∷ spare ∷ []) → id ≤ limitOf format
-fit-limit false id spare (field w v h rest) = omega arith
-fit-limit true id spare (field w v h rest) = omega arith
-
-bytes-row-fit : (format : Bool) (b : List ℕ) → Bytes b → Fit (bytes (idBytes format)) (part b 1 (idBytes format))
-bytes-row-fit format b small = bytes-fit (idBytes format) (λ i. getD b (1 + i) 0) (λ i. small (1 + i))
-
--- an identifier that is read is within its limit
-pub id-within : (format : Bool) (b : List ℕ) → Bytes b → idIn format b ≤ limitOf format
-id-within format b small =
-    fit-limit format (idIn format b) (getD (idFields format b) 1 0)
-    (rw (two-fields format b) at
-    (regroup-fits (bytes (idBytes format)) (idRow format) (part b 1 (idBytes format)) (sym (row-width format)) (bytes-row-fit format b small)))
-
--- so reading the identifier of 13 bytes is never refused
-pub identifier-given : (b : List ℕ) → Bytes b → identifierOf b ≡ gives (extendedOf b, idOf b)
-unfolding identifierOf
-identifier-given b small = rw (le-leb _ _ (id-within (extendedOf b) b small))
 
 -- a code below 8, or no data, tells the length
 length-code : (remote : Bool) (code : ℕ) → (remote ≡ true → code ≡ 0) → cond remote 0 (min code 8) < 8 → code ≡ cond remote 0 (min code 8)

@@ -1,9 +1,9 @@
--- `frames::non_compliant_dlc` meets its contract: each branch is a case of the definition. Assumes nothing.
+-- `frame_building::non_compliant_dlc` meets its contract: each branch is a case of the definition. Assumes nothing.
 use mathlib.Core.Bool.{or-false}
 use native.Mathlib.Omega.{arith}
 use borrow.Author.Tests.{lt-ltb, le-ltb, eq-eqb, ne-eqb}
-use Rattle.frames.proofs.non_compliant_dlc.Statement.{statement}
-use Rattle.frames.proofs.non_compliant_dlc.Tie as tie
+use Rattle.frame_building.proofs.non_compliant_dlc.Statement.{statement}
+use Rattle.frame_building.proofs.non_compliant_dlc.Tie as tie
 
 returns : tie.Need-returns
 returns c = simp (lt-ltb _ _ (c .if1 .taken))

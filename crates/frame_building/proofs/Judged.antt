@@ -8,7 +8,7 @@ use borrow.Author.Tests.{ltb-true, ltb-false, leb-true, eqb-true, le-leb, le-ltb
 use Rattle.laws.specs.Said.{Said, refuses, gives}
 use Rattle.laws.proofs.Bools.{neither, or-no, not-both, and-no}
 use Rattle.identifiers.specs.Limits.{limitOf}
-use Rattle.frames.specs.Building.{invalidLength, nonCompliant, judgeOf}
+use Rattle.frame_building.specs.Building.{invalidLength, nonCompliant, judgeOf}
 
 pub record Good (format : Bool) (id : ℕ) (remote : Bool) (code length : ℕ) : Type 0 where
   pub within : id ≤ limitOf format

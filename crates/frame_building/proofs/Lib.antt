@@ -1,0 +1,5 @@
+pub mod Buffer
+pub mod Judged
+pub mod Fields
+pub mod RoundTrip
+pub mod Only
