@@ -7,7 +7,7 @@ use mathlib.Core.List.{List, [], _∷_}
 use lib.Dec.{eqb}
 use lib.ListN.{replicate}
 use Rattle.laws.specs.Bits.{bitAt}
-use Rattle.filters.specs.Table.{Filter, singleStandard, singleExtended}
+use Rattle.filter_patterns.specs.Table.{Filter, singleStandard, singleExtended}
 
 -- how many bits an identifier has, by its format (extended or not)
 abbrev pub widthOf : Bool → ℕ

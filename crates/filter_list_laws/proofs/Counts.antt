@@ -15,10 +15,11 @@ use Rattle.laws.specs.Bits.{bitAt}
 use Rattle.laws.specs.Row.{bit}
 use Rattle.laws.proofs.Bits.{bit-lt, bit-or, bit-here, bit-there, bit-past}
 use Rattle.laws.proofs.Bools.{both-left, both-right}
-use Rattle.filters.specs.Words.{isCharacter, written}
-use Rattle.filters.specs.Registers.{codeIn, maskIn}
-use Rattle.filters.specs.Meaning.{allCharacters, charactersIn}
-use Rattle.filters.proofs.Characters.{character-none}
+use Rattle.filter_patterns.specs.Words.{isCharacter}
+use Rattle.filters.specs.Words.{written}
+use Rattle.filter_patterns.specs.Registers.{codeIn, maskIn}
+use Rattle.filter_patterns.specs.Meaning.{allCharacters, charactersIn}
+use Rattle.filter_patterns.proofs.Characters.{character-none}
 use Rattle.matcher.specs.Match.{fits, allFit}
 use Rattle.filter_list.specs.Answers.{onesAmong}
 use Rattle.filter_list_laws.specs.Accepts.{acceptsId, countBelow}

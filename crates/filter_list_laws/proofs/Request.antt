@@ -14,11 +14,11 @@ use Rattle.laws.specs.Laid.{written}
 use Rattle.laws.proofs.Said.{passed, gives-same}
 use Rattle.laws.proofs.Bools.{and-yes}
 use Rattle.identifiers.specs.Limits.{limitOf}
-use Rattle.filters.specs.Table.{fieldsOf}
-use Rattle.filters.specs.Words.{isCharacter}
-use Rattle.filters.specs.Answers.{answered, compileOf}
-use Rattle.filters.specs.Meaning.{allCharacters, charactersIn, patternsIn}
-use Rattle.filters.proofs.Back.{patterns-back}
+use Rattle.filter_patterns.specs.Table.{fieldsOf}
+use Rattle.filter_patterns.specs.Words.{isCharacter}
+use Rattle.filter_patterns.specs.Answers.{answered, compileOf}
+use Rattle.filter_patterns.specs.Meaning.{allCharacters, charactersIn, patternsIn}
+use Rattle.filter_patterns.proofs.Back.{patterns-back}
 use Rattle.frames.specs.Buffer.{Frame}
 use Rattle.frame_building.specs.Buffer.{bufferOf}
 use Rattle.frame_building.specs.Building.{judged}

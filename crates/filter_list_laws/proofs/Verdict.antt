@@ -8,11 +8,12 @@ use lib.ListN.{length, replicate}
 use native.Mathlib.Omega.{arith}
 use borrow.Author.Tests.{eq-eqb}
 use Rattle.laws.specs.Said.{gives}
-use Rattle.filters.specs.Table.{fieldsOf}
-use Rattle.filters.specs.Words.{isCharacter, written}
-use Rattle.filters.specs.Answers.{compileOf}
-use Rattle.filters.specs.Meaning.{allCharacters}
-use Rattle.filters.proofs.Joined.{good-said}
+use Rattle.filter_patterns.specs.Table.{fieldsOf}
+use Rattle.filter_patterns.specs.Words.{isCharacter}
+use Rattle.filters.specs.Words.{written}
+use Rattle.filter_patterns.specs.Answers.{compileOf}
+use Rattle.filter_patterns.specs.Meaning.{allCharacters}
+use Rattle.filter_patterns.proofs.Joined.{good-said}
 use Rattle.filters.proofs.Laid.{written-length}
 use Rattle.frames.specs.Buffer.{extendedOf, idOf}
 use Rattle.matcher.specs.Match.{numbersIn, fits, allFit, fitsEither, fitsFilter, acceptsOf}

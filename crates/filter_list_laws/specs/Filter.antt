@@ -6,7 +6,7 @@ use mathlib.Core.Bool.{Bool, true}
 use mathlib.Core.List.{List, List·Memᴰ}
 use lib.ListN.{length}
 use Rattle.laws.specs.Said.{gives}
-use Rattle.filters.specs.Answers.{compileOf}
+use Rattle.filter_patterns.specs.Answers.{compileOf}
 use Rattle.frames.specs.Buffer.{extendedOf, idOf}
 use Rattle.matcher.specs.Words.{matchOf}
 use Rattle.filter_list.specs.Pattern.{widthOf, singleOf, withIdentifier}

@@ -13,8 +13,9 @@ use native.Mathlib.Omega.{arith}
 use Rattle.laws.specs.Row.{bit}
 use Rattle.laws.specs.Bits.{bitAt}
 use Rattle.laws.proofs.Bits.{bit-lt, or-assoc}
-use Rattle.filters.specs.Table.{singleStandard, singleExtended, dualStandard, dualExtended, fieldsOf, joined, run}
-use Rattle.filters.specs.Words.{one, wordFrom, written, writtenIn, laidOf}
+use Rattle.filter_patterns.specs.Table.{singleStandard, singleExtended, dualStandard, dualExtended, fieldsOf, joined, run}
+use Rattle.filter_patterns.specs.Words.{one, wordFrom}
+use Rattle.filters.specs.Words.{written, writtenIn, laidOf}
 
 pub flag-lt : (b : Bool) → bit b < 2
 flag-lt true = omega arith

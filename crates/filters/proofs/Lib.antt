@@ -1,14 +1,3 @@
-pub mod Table
-pub mod Characters
-pub mod Words
-pub mod Registers
-pub mod Joined
 pub mod Answers
 pub mod Laid
-pub mod Agree
-pub mod Both
-pub mod Means
-pub mod Mapped
-pub mod Back
-pub mod Only
 pub mod Builders

@@ -1,42 +1,15 @@
--- What the compilers answer: the refusal that is due, else the registers.
--- Source: the outline, refusals 1, 4 and 5: all lengths in argument order, then characters.
-use Prim.Native.Nat.{ℕ, suc}
+-- What the compilers by code and mask answer: the refusal that is due, else the registers.
+-- Source: the outline, refusal 1.
+use Prim.Native.Nat.{ℕ}
 use mathlib.Core.Bool.{Bool, cond, _&&_}
-use mathlib.Core.List.{List, [], _∷_}
-use lib.Dec.{eqb, ltb, leb}
-use lib.ListN.{length, replicate}
-use Rattle.laws.specs.Said.{Said, refuses, gives, accepted}
-use Rattle.refusals.specs.Table.{refusalSaid}
+use mathlib.Core.List.{List}
+use lib.Dec.{leb}
+use Rattle.laws.specs.Said.{Said, refuses, gives}
 use Rattle.identifiers.specs.Limits.{limitOf}
-use Rattle.filters.specs.Table.{Filter, fieldsOf, rowOf, joined, lengths}
-use Rattle.filters.specs.Words.{codeOf, maskOf, laidOf, badAt}
-use Rattle.filters.specs.Registers.{registersOf}
-use Rattle.filters.specs.declared.Compiling.{Compiling}
-use Rattle.filters.specs.declared.Compiling.the-variants.{Made, Refused}
-use Rattle.filters.specs.declared.Compiled.{Compiled}
-
--- by the fields' widths and the patterns' lengths, counted from a field on; and what is said where all are right
-abbrev pub lengthsOf : ℕ → List ℕ → List ℕ → Said ℕ → Said ℕ
-lengthsOf field [] [] rest = rest
-lengthsOf field [] (l ∷ ls) rest = refuses 4 field
-lengthsOf field (n ∷ ns) [] rest = refuses 4 field
-lengthsOf field (n ∷ ns) (l ∷ ls) rest = cond (eqb l n) (lengthsOf (suc field) ns ls rest) (refuses 4 field)
-
-abbrev pub charactersOf : List ℕ → Said ℕ
-charactersOf cs = cond (ltb (badAt cs) (length cs)) (refuses 5 (badAt cs)) (gives 8)
-
--- the answer, and the eight registers beside it: zeros after a refusal
-abbrev pub answered : Said ℕ → List ℕ → Said ℕ × List ℕ
-answered said registers = (said, cond (accepted said) registers (replicate 8 0))
-
--- by the fields' widths, the row's positions and the patterns
-abbrev pub compileBy : List ℕ → List ℕ → List (List ℕ) → Said ℕ × List ℕ
-compileBy widths row patterns =
-    answered (lengthsOf 0 widths (lengths patterns) (charactersOf (joined patterns)))
-    (registersOf (codeOf row (joined patterns)) (maskOf row (joined patterns)))
-
-unfoldable pub compileOf : Filter → List (List ℕ) → Said ℕ × List ℕ
-compileOf filter patterns = compileBy (lengths (fieldsOf filter)) (rowOf filter) patterns
+use Rattle.filter_patterns.specs.Table.{Filter, fieldsOf}
+use Rattle.filter_patterns.specs.Registers.{registersOf}
+use Rattle.filter_patterns.specs.Answers.{answered}
+use Rattle.filters.specs.Words.{laidOf}
 
 -- an identifier's code and mask are both within the limit of their format
 abbrev pub bothWithin : Bool → ℕ → ℕ → Bool
@@ -46,10 +19,3 @@ bothWithin format code mask = leb code (limitOf format) && leb mask (limitOf for
 unfoldable pub codeMaskOf : Filter → Bool → List ℕ → List ℕ → Said ℕ × List ℕ
 codeMaskOf filter within codes masks =
     answered (cond within (gives 8) (refuses 1 0)) (registersOf (laidOf (fieldsOf filter) codes) (laidOf (fieldsOf filter) masks))
-
-abbrev pub compilingSaid : Compiling → Said ℕ
-compilingSaid Made = gives 8
-compilingSaid (Refused f) = refusalSaid f
-
-abbrev pub compiledSaid : Compiled → Said ℕ × List ℕ
-compiledSaid r = (compilingSaid (r .answer), r .registers)

@@ -1,45 +1,11 @@
--- What a filter accepts of a 32-bit word, said of its words, of its registers and of its patterns.
--- Source: ESP32-C3 manual, TWAI chapter, acceptance filter: a mask-register bit of 0 means compared; the outline, "Registers".
-use Prim.Native.Nat.{ℕ, _+_, _^_, _<_}
+-- When two builders mean the same, and which codes have no bit outside their mask.
+-- Source: the outline, "Registers".
+use Prim.Native.Nat.{ℕ, _^_, _<_}
 use mathlib.Core.Path.{_≡_}
 use mathlib.Core.Logic.{_↔_}
-use mathlib.Core.Bool.{Bool, true, cond, not, _&&_}
-use mathlib.Core.List.{List, [], _∷_, map}
-use lib.Dec.{eqb, ltb}
-use lib.ListN.{length, getD}
+use mathlib.Core.List.{List}
 use Rattle.laws.specs.Bits.{bitAt}
-use Rattle.filters.specs.Words.{isCharacter}
-use Rattle.filters.specs.Registers.{codeIn, maskIn}
-
--- no two of a row's positions are equal
-abbrev pub fresh : ℕ → List ℕ → Bool
-fresh p [] = true
-fresh p (q ∷ qs) = not (eqb p q) && fresh p qs
-
-abbrev pub distinct : List ℕ → Bool
-distinct [] = true
-distinct (p ∷ ps) = fresh p ps && distinct ps
-
--- each is a position of a 32-bit word
-abbrev pub within : List ℕ → Bool
-within [] = true
-within (p ∷ ps) = ltb p 32 && within ps
-
-abbrev pub allCharacters : List ℕ → Bool
-allCharacters [] = true
-allCharacters (c ∷ cs) = isCharacter c && allCharacters cs
-
--- code and word agree on each bit that the mask has compared
-abbrev pub Agree : ℕ → ℕ → ℕ → Type 0
-Agree code mask w = (k : ℕ) → bitAt mask k ≡ 1 → bitAt code k ≡ bitAt w k
-
--- the registers accept a word
-abbrev pub Accepts : List ℕ → ℕ → Type 0
-Accepts registers w = (k : ℕ) → k < 32 → bitAt (maskIn registers) k ≡ 0 → bitAt (codeIn registers) k ≡ bitAt w k
-
--- each character other than `x` equals the word's bit at its position
-abbrev pub Matches : List ℕ → List ℕ → ℕ → Type 0
-Matches ps cs w = (i : ℕ) → i < length cs → (getD cs i 0 ≡ 120 → ⊥) → getD cs i 0 ≡ 48 + bitAt w (getD ps i 0)
+use Rattle.filter_patterns.specs.Meaning.{Agree, Accepts}
 
 -- two pairs of code and mask mean the same: they agree with the same words
 abbrev pub Same : ℕ → ℕ → ℕ → ℕ → Type 0
@@ -48,16 +14,6 @@ Same c m c′ m′ = (w : ℕ) → w < 2 ^ 32 → Agree c m w ↔ Agree c′ m�
 -- no code bit outside the mask
 abbrev pub Tidy : ℕ → ℕ → Type 0
 Tidy c m = (k : ℕ) → bitAt m k ≡ 0 → bitAt c k ≡ 0
-
--- the pattern character that the registers have at a position
-abbrev pub characterIn : List ℕ → ℕ → ℕ
-characterIn registers p = cond (eqb (bitAt (maskIn registers) p) 1) 120 (48 + bitAt (codeIn registers) p)
-
-abbrev pub charactersIn : List ℕ → List ℕ → List ℕ
-charactersIn registers ps = map (characterIn registers) ps
-
-abbrev pub patternsIn : List ℕ → List (List ℕ) → List (List ℕ)
-patternsIn registers fields = map (charactersIn registers) fields
 
 -- two register sets mean the same: they accept the same words
 abbrev pub SameMeaning : List ℕ → List ℕ → Type 0

@@ -6,11 +6,11 @@ use mathlib.Core.Bool.{Bool, true, false}
 use mathlib.Core.List.{List, [], _∷_}
 use lib.ListN.{replicate}
 use Rattle.laws.specs.Said.{gives}
-use Rattle.filters.specs.Table.{singleStandard, fieldsOf}
-use Rattle.filters.specs.Words.{one, care, wordFrom, badAt}
-use Rattle.filters.specs.Meaning.{patternsIn}
-use Rattle.filters.specs.Answers.{compileOf}
-use Rattle.filters.proofs.Back.{patterns-back}
+use Rattle.filter_patterns.specs.Table.{singleStandard, fieldsOf}
+use Rattle.filter_patterns.specs.Words.{one, care, wordFrom, badAt}
+use Rattle.filter_patterns.specs.Meaning.{patternsIn}
+use Rattle.filter_patterns.specs.Answers.{compileOf}
+use Rattle.filter_patterns.proofs.Back.{patterns-back}
 use Rattle.frames.specs.Buffer.{extendedOf, dataLengthOf, dataOf}
 use Rattle.matcher.specs.Match.{rowFor, numbersIn, allFit, fitsEither, fitsFilter, acceptsOf}
 

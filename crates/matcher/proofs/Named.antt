@@ -14,12 +14,12 @@ use borrow.Author.Tests.{eq-eqb, ne-eqb, eqb-true, eqb-false}
 use Rattle.laws.specs.Bits.{bitAt}
 use Rattle.laws.proofs.Bits.{bit-lt, bit-zero, bit-and, bit-xor, bit-not, bit-ext, differ-zero, differ-same}
 use Rattle.laws.proofs.Bools.{same-test, and-yes, both-true}
-use Rattle.filters.specs.Words.{one}
-use Rattle.filters.specs.Registers.{codeIn, maskIn}
-use Rattle.filters.specs.Meaning.{distinct, within, characterIn, charactersIn}
-use Rattle.filters.proofs.Characters.{one-is, one-lt}
-use Rattle.filters.proofs.Table.{within-at}
-use Rattle.filters.proofs.Agree.{off, word-lt, where-is, code-at}
+use Rattle.filter_patterns.specs.Words.{one}
+use Rattle.filter_patterns.specs.Registers.{codeIn, maskIn}
+use Rattle.filter_patterns.specs.Meaning.{distinct, within, characterIn, charactersIn}
+use Rattle.filter_patterns.proofs.Characters.{one-is, one-lt}
+use Rattle.filter_patterns.proofs.Table.{within-at}
+use Rattle.filter_patterns.proofs.Agree.{off, word-lt, where-is, code-at}
 use Rattle.matcher.specs.Match.{fits, allFit}
 use Rattle.matcher.specs.Words.{onesAt, missOf}
 

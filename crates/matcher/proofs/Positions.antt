@@ -13,16 +13,17 @@ use borrow.Author.Tests.{ne-eqb}
 use Rattle.laws.specs.Bits.{bitAt}
 use Rattle.laws.specs.Said.{Said, refuses, gives}
 use Rattle.laws.proofs.Bits.{bit-lt}
-use Rattle.filters.specs.Table.{Filter, singleStandard, singleExtended, dualStandard, dualExtended, fieldsOf, rowOf, joined, lengths}
-use Rattle.filters.specs.Words.{one, written, writtenEach, writtenIn, laidOf}
-use Rattle.filters.specs.Registers.{codeIn, maskIn}
-use Rattle.filters.specs.Meaning.{distinct, within, characterIn, charactersIn, patternsIn}
-use Rattle.filters.proofs.Characters.{one-lt}
+use Rattle.filter_patterns.specs.Table.{Filter, singleStandard, singleExtended, dualStandard, dualExtended, fieldsOf, rowOf, joined, lengths}
+use Rattle.filter_patterns.specs.Words.{one}
+use Rattle.filters.specs.Words.{written, writtenEach, writtenIn, laidOf}
+use Rattle.filter_patterns.specs.Registers.{codeIn, maskIn}
+use Rattle.filter_patterns.specs.Meaning.{distinct, within, characterIn, charactersIn, patternsIn}
+use Rattle.filter_patterns.proofs.Characters.{one-lt}
 use Rattle.filters.proofs.Laid.{one-digit, written-length}
 use Rattle.filters.proofs.Builders.{laid-small, written-whole}
-use Rattle.filters.proofs.Table.{row-distinct, row-within}
-use Rattle.filters.proofs.Agree.{word-lt, code-at}
-use Rattle.filters.proofs.Mapped.{mapped-at, mapped-joined, mapped-take, mapped-drop, apart}
+use Rattle.filter_patterns.proofs.Table.{row-distinct, row-within}
+use Rattle.filter_patterns.proofs.Agree.{word-lt, code-at}
+use Rattle.filter_patterns.proofs.Mapped.{mapped-at, mapped-joined, mapped-take, mapped-drop, apart}
 use Rattle.frames.specs.Buffer.{extendedOf}
 use Rattle.matcher.specs.Match.{rowFor, numbersIn, shownIn, shownBits, allFit, firstFields, fitsEither, acceptsOf}
 use Rattle.matcher.specs.Words.{onesAt, missOf, showBy, showOf, agreesOf, compareOf, matchOf}

@@ -6,8 +6,8 @@ use mathlib.Core.List.{List}
 use native.Mathlib.Omega.{arith}
 use Rattle.laws.specs.Row.{bit}
 use Rattle.identifiers.specs.Limits.{limitOf}
-use Rattle.filters.specs.Table.{fieldsOf}
-use Rattle.filters.specs.Words.{one, wordFrom}
+use Rattle.filter_patterns.specs.Table.{fieldsOf}
+use Rattle.filter_patterns.specs.Words.{one, wordFrom}
 use Rattle.filters.proofs.Laid.{laid-single-standard, laid-single-extended, laid-dual-standard, laid-dual-extended}
 use Rattle.frames.specs.Buffer.{extendedOf, remoteOf, idOf}
 use Rattle.matcher.specs.Match.{byteOf, numbersIn}

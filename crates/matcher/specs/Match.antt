@@ -6,9 +6,9 @@ use mathlib.Core.List.{List, [], _∷_}
 use lib.Dec.{eqb}
 use lib.ListN.{getD, take, drop}
 use Rattle.laws.specs.Row.{bit}
-use Rattle.filters.specs.Table.{Filter, singleStandard, singleExtended, dualStandard, dualExtended, fieldsOf, joined}
+use Rattle.filter_patterns.specs.Table.{Filter, singleStandard, singleExtended, dualStandard, dualExtended, fieldsOf, joined}
 use Rattle.filters.specs.Words.{writtenEach}
-use Rattle.filters.specs.Meaning.{patternsIn}
+use Rattle.filter_patterns.specs.Meaning.{patternsIn}
 use Rattle.frames.specs.Buffer.{extendedOf, remoteOf, idOf, dataOf}
 
 -- the frame's own format picks the row

@@ -9,8 +9,9 @@ use lib.ListN.{length, take, drop, replicate}
 use Rattle.laws.specs.Row.{bit}
 use Rattle.laws.specs.Said.{Said, refuses, gives}
 use Rattle.refusals.specs.Table.{refusalSaid}
-use Rattle.filters.specs.Table.{Filter, fieldsOf, joined}
-use Rattle.filters.specs.Words.{codeOf, laidOf}
+use Rattle.filter_patterns.specs.Table.{Filter, fieldsOf, joined}
+use Rattle.filter_patterns.specs.Words.{codeOf}
+use Rattle.filters.specs.Words.{laidOf}
 use Rattle.frames.specs.Buffer.{extendedOf, remoteOf, idOf}
 use Rattle.matcher.specs.Match.{rowFor, byteOf, numbersIn, firstFields, acceptsOf}
 use Rattle.matcher.specs.declared.Shown.{Shown}

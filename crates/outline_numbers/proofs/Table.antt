@@ -1,9 +1,11 @@
 -- Every row of the table holds: the definitions compute what the outline says. Assumes nothing.
 use mathlib.Core.Path.{_≡_, refl, ap}
 use mathlib.Core.List.{List, _++_, map}
-use Rattle.filters.specs.Table.{fieldsOf}
-use Rattle.filters.specs.Words.{one, care, wordFrom, laidOf, badAt}
-use Rattle.filters.specs.Answers.{compileOf, codeMaskOf}
+use Rattle.filter_patterns.specs.Table.{fieldsOf}
+use Rattle.filter_patterns.specs.Words.{one, care, wordFrom, badAt}
+use Rattle.filters.specs.Words.{laidOf}
+use Rattle.filter_patterns.specs.Answers.{compileOf}
+use Rattle.filters.specs.Answers.{codeMaskOf}
 use Rattle.frames.specs.Buffer.{dataLengthOf, dataOf}
 use Rattle.frame_building.specs.Buffer.{bufferOf}
 use Rattle.frame_building.specs.Building.{judgeOf, buildOf}

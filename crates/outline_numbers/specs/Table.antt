@@ -7,8 +7,9 @@ use lib.ListN.{replicate}
 use Rattle.laws.specs.Said.{Said, refuses, gives}
 use Rattle.laws.specs.Tabulate.{part}
 use Rattle.identifiers.specs.Answers.{baseOf}
-use Rattle.filters.specs.Table.{singleStandard, dualStandard, dualExtended}
-use Rattle.filters.specs.Answers.{compileOf, codeMaskOf, bothWithin}
+use Rattle.filter_patterns.specs.Table.{singleStandard, dualStandard, dualExtended}
+use Rattle.filter_patterns.specs.Answers.{compileOf}
+use Rattle.filters.specs.Answers.{codeMaskOf, bothWithin}
 use Rattle.frames.specs.Buffer.{Frame, dataOf}
 use Rattle.frame_building.specs.Buffer.{bufferOf}
 use Rattle.frame_building.specs.Building.{buildOf, judged}

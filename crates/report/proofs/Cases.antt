@@ -3,7 +3,7 @@ use Prim.Native.Nat.{ℕ}
 use mathlib.Core.Path.{_≡_, refl}
 use mathlib.Core.List.{List, [], _∷_, _++_}
 use lib.ListN.{replicate}
-use Rattle.filters.specs.Table.{fieldsOf}
+use Rattle.filter_patterns.specs.Table.{fieldsOf}
 use Rattle.frames.specs.Buffer.{dataLengthOf, dataOf}
 use Rattle.frame_file.specs.Reader.{framesFrom, framesAt, filtersFrom, readOf}
 use Rattle.matcher.specs.Match.{numbersIn, allFit, fitsEither, acceptsOf}
