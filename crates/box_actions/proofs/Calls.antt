@@ -27,9 +27,10 @@ use Rattle.receive_box.specs.declared.Phase as P
 use Rattle.receive_box.specs.declared.Phase.the-variants as phase
 use Rattle.receive_box.specs.declared.ReceiveBox.{ReceiveBox}
 use Rattle.receive_box.specs.Rules.{isIdle}
-use Rattle.receive_box.specs.Step.{withOf, firstPhase, afterNotice}
-use Rattle.receive_box.specs.Calls.{arriveOf, takeOf, begun, startOf}
+use Rattle.receive_box.specs.Calls.{withOf, arriveOf, takeOf}
 use Rattle.receive_box.proofs.Rules.{Good, good-ok}
+use Rattle.drain_steps.specs.Step.{firstPhase, afterNotice}
+use Rattle.drain.specs.Start.{begun, startOf}
 use Rattle.whole_actions.specs.Calls as Calls
 use Rattle.whole_actions.specs.Lists as Lists
 use Rattle.whole_actions.specs.Lists.{enter}

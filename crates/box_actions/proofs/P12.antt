@@ -15,7 +15,7 @@ use Rattle.words.specs.Due.{receiveDue, noticeDue}
 use Rattle.receive_box.specs.declared.ReceiveBox.{ReceiveBox}
 use Rattle.receive_box.specs.Calls.{freshBox}
 use Rattle.receive_box.proofs.Rules.{Good}
-use Rattle.receive_box.proofs.Kept.{fresh-good}
+use Rattle.drain.proofs.Kept.{fresh-good}
 use Rattle.whole_actions.specs.Lists.{moved}
 use Rattle.whole_actions.specs.Calls.{Box, box, idle, lists, run, end, did, started, quiet, released}
 use Rattle.box_actions.specs.Kit.{can, boxOf}

@@ -19,11 +19,12 @@ use Rattle.fifo.proofs.Ring.{released-entries}
 use Rattle.receive_box.specs.declared.Phase as P
 use Rattle.receive_box.specs.declared.Phase.the-variants as phase
 use Rattle.receive_box.specs.declared.ReceiveBox.{ReceiveBox}
-use Rattle.receive_box.specs.declared.Command.{Command}
-use Rattle.receive_box.specs.declared.Command.the-variants as command
 use Rattle.receive_box.specs.Rules.{recordOf, busOff, phaseOk}
-use Rattle.receive_box.specs.Step.{lost, withOf, atPhase, holding, quietly, offering, noticeStep, lookStep, missStep, copyStep, releaseStep, offerStep, finishStep, byPhase, stepOf}
+use Rattle.receive_box.specs.Calls.{withOf}
 use Rattle.receive_box.proofs.Rules.{Good, good-ok, ready, copy-front, release-front}
+use Rattle.drain_steps.specs.declared.Command.{Command}
+use Rattle.drain_steps.specs.declared.Command.the-variants as command
+use Rattle.drain_steps.specs.Step.{lost, atPhase, holding, quietly, offering, noticeStep, lookStep, missStep, copyStep, releaseStep, offerStep, finishStep, byPhase, stepOf}
 use Rattle.whole_actions.specs.Calls as Calls
 use Rattle.whole_actions.specs.Lists.{offer}
 use Rattle.whole_actions.specs.Calls.{Event, Box, box, call, step, stepped, toNotice, toLook, toMiss, toCopy, toRelease, toOffer, toFinish}

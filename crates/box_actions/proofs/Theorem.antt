@@ -9,9 +9,9 @@ use Rattle.receive_box.specs.declared.Phase as P
 use Rattle.receive_box.specs.declared.Phase.the-variants as phase
 use Rattle.receive_box.specs.declared.ReceiveBox.{ReceiveBox}
 use Rattle.receive_box.specs.Calls.{freshBox}
-use Rattle.receive_box.specs.Run as R
 use Rattle.receive_box.proofs.Rules.{Good}
-use Rattle.receive_box.proofs.Kept.{good-kept, fresh-good}
+use Rattle.drain.specs.Run as R
+use Rattle.drain.proofs.Kept.{good-kept, fresh-good}
 use Rattle.whole_actions.specs.Calls as Calls
 use Rattle.whole_actions.specs.Calls.{Call, arrives, takes, start, step, Box, idle, drainOf, lists, call, run, end}
 use Rattle.whole_actions.specs.Demand.{Whole}

@@ -22,10 +22,11 @@ use Rattle.fifo.specs.Ring as F
 use Rattle.fifo.specs.Ring.{Outcome}
 use Rattle.words.specs.declared.Words.{Words}
 use Rattle.receive_box.specs.declared.ReceiveBox.{ReceiveBox}
-use Rattle.receive_box.specs.declared.Command.{Command}
-use Rattle.receive_box.specs.Step.{Told, done, lost, finished, stepOf}
-use Rattle.receive_box.specs.Calls.{arriveOf, takeOf, startOf}
-use Rattle.receive_box.specs.Run.{arrives, takes, starts, steps}
+use Rattle.receive_box.specs.Calls.{arriveOf, takeOf}
+use Rattle.drain_steps.specs.declared.Command.{Command}
+use Rattle.drain_steps.specs.Step.{Told, done, lost, finished, stepOf}
+use Rattle.drain.specs.Start.{startOf}
+use Rattle.drain.specs.Run.{arrives, takes, starts, steps}
 use Rattle.box_script.specs.State.{wordsAt, wordsBytes, entryBytes, recordBytes, entriesBytes, fifoBytes, placesBytes, queueBytes, phaseByte, stateAt, stateBytes}
 use Rattle.box_script.specs.Format.{Asked, calls, loads, tells, callAt}
 use Rattle.box_script.specs.Answers.{arrivalBytes, takeBytes, startBytes, stepBytes, callAnswer, answerOf, nextOf, answersOf, answerLength}

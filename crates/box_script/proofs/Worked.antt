@@ -11,8 +11,9 @@ use Rattle.queue.specs.Same.{sameBytes}
 use Rattle.fifo.specs.Ring.{weightOf, sumTo, fifoOk, arriveOf as fifoArriveOf}
 use Rattle.words.specs.Due.{receiveDue, noticeDue, errorDue, finishOf}
 use Rattle.receive_box.specs.Rules.{frontReady, copyReady, releaseReady, boxOk}
-use Rattle.receive_box.specs.Step.{offering, afterNotice, firstPhase, lookStep, missStep, copyStep, releaseStep, offerStep, finishStep, stepOf}
-use Rattle.receive_box.specs.Calls.{arriveOf, takeOf, startOf}
+use Rattle.receive_box.specs.Calls.{arriveOf, takeOf}
+use Rattle.drain_steps.specs.Step.{offering, afterNotice, firstPhase, lookStep, missStep, copyStep, releaseStep, offerStep, finishStep, stepOf}
+use Rattle.drain.specs.Start.{startOf}
 use Rattle.box_script.specs.State.{stateAt}
 use Rattle.box_script.specs.Format.{callLength, lengthAt, callsFrom}
 use Rattle.box_script.specs.Answers.{callAnswer, answerOf, answersOf}

@@ -12,11 +12,12 @@ use Rattle.queue.specs.declared.Record.{Record}
 use Rattle.fifo.specs.Ring.{Outcome, notRecorded, marked, stored}
 use Rattle.words.specs.declared.Finished.{Finished}
 use Rattle.receive_box.specs.declared.ReceiveBox.{ReceiveBox}
-use Rattle.receive_box.specs.declared.Command.{Command}
-use Rattle.receive_box.specs.declared.Command.the-variants as command
-use Rattle.receive_box.specs.Step.{Told, done, lost, finished, stepOf}
-use Rattle.receive_box.specs.Calls.{arriveOf, takeOf, startOf}
-use Rattle.receive_box.specs.Run.{Call, arrives, takes, starts, steps, after}
+use Rattle.receive_box.specs.Calls.{arriveOf, takeOf}
+use Rattle.drain_steps.specs.declared.Command.{Command}
+use Rattle.drain_steps.specs.declared.Command.the-variants as command
+use Rattle.drain_steps.specs.Step.{Told, done, lost, finished, stepOf}
+use Rattle.drain.specs.Start.{startOf}
+use Rattle.drain.specs.Run.{Call, arrives, takes, starts, steps, after}
 use Rattle.box_script.specs.State.{recordBytes, stateBytes}
 use Rattle.box_script.specs.Format.{Asked, calls, loads, tells}
 

@@ -9,12 +9,17 @@ ghost use Rattle.laws.specs.Tabulate.{part};
 ghost use Rattle.refusals.specs.Table.{numberOf};
 ghost use Rattle.queue.specs.Ring.{takingSaid};
 ghost use Rattle.fifo.specs.Ring.{arrivalSaid};
-ghost use Rattle.receive_box.specs.Step.{steppingSaid, stepOf};
-ghost use Rattle.receive_box.specs.Calls.{arrivingSaid, arriveOf, takeOf, startingSaid, startOf};
+ghost use Rattle.receive_box.specs.Calls.{arrivingSaid, arriveOf, takeOf};
+ghost use Rattle.drain_steps.specs.Step.{steppingSaid, stepOf};
+ghost use Rattle.drain.specs.Start.{startingSaid, startOf};
 ghost use Rattle.box_script.specs.State.{wordAt, wordsAt, wordsBytes, entryAt, entryBytes, kindOf, recordAt, kindByte, recordBytes, entriesAt, fifoAt, entriesBytes, fifoBytes, placesAt, queueAt, placesBytes, queueBytes, phaseOf, phaseByte, stateAt, stateBytes};
 ghost use Rattle.box_script.specs.Format.{callLength, lengthAt, callAt, callsOf};
 ghost use Rattle.box_script.specs.Answers.{outcomeByte, arrivalBytes, takeBytes, startBytes, commandByte, finishedBytes, stepBytes, answerOf, nextOf, answerLength};
 ghost use Rattle.box_script.specs.Run.{answersTo, capped, runOf, runningSaid};
+use drain::Starting;
+use drain_steps::Command;
+use drain_steps::StepAnswer;
+use drain_steps::Stepping;
 use fifo::Arrival;
 use fifo::ENTRY_LIMIT;
 use fifo::Entry;
@@ -27,12 +32,8 @@ use queue::RecordKind;
 use queue::TakeAnswer;
 use queue::Taking;
 use receive_box::Arriving;
-use receive_box::Command;
 use receive_box::Phase;
 use receive_box::ReceiveBox;
-use receive_box::Starting;
-use receive_box::StepAnswer;
-use receive_box::Stepping;
 use refusals::Refusal;
 use words::Finished;
 use words::Words;
@@ -675,7 +676,7 @@ fn run_start(state: ReceiveBox, words: Words, out: &mut [u8], to: usize) -> Rece
     ensures { λ r. ⌜ (r ≡ startOf state words .1)
         × (now (out .exit) ≡ laid to (startBytes (startOf state words .0)) (now (out .entry))) ⌝ }
 {
-    let started = state.start(words);
+    let started = drain::start(state, words);
     let answer = started.answer;
     let bytes = start_bytes(answer);
     put(&bytes, out, to);
@@ -687,7 +688,7 @@ fn run_step(state: ReceiveBox, out: &mut [u8], to: usize) -> ReceiveBox
     ensures { λ r. ⌜ (r ≡ stepOf state .1)
         × (now (out .exit) ≡ laid to (stepBytes (stepOf state .0 .0) (stepOf state .0 .1) (stepOf state .0 .2)) (now (out .entry))) ⌝ }
 {
-    let stepped = state.step();
+    let stepped = drain::step(state);
     let answer = stepped.answer;
     let bytes = step_bytes(answer);
     put(&bytes, out, to);

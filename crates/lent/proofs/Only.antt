@@ -4,10 +4,12 @@ use mathlib.Core.Path.{_≡_, ap, sym, _∙_}
 use Rattle.receive_box.specs.declared.ReceiveBox.{ReceiveBox}
 use Rattle.receive_box.specs.declared.Arrived.{Arrived}
 use Rattle.receive_box.specs.declared.Taken.{Taken}
-use Rattle.receive_box.specs.declared.Started.{Started}
-use Rattle.receive_box.specs.declared.Stepped.{Stepped}
-use Rattle.receive_box.specs.Run.{Call, arrives, takes, starts, steps}
-use Rattle.receive_box.proofs.Only.{only-arrived, only-taken, only-started, only-stepped}
+use Rattle.receive_box.proofs.Only.{only-arrived, only-taken}
+use Rattle.drain_steps.specs.declared.Stepped.{Stepped}
+use Rattle.drain_steps.proofs.Only.{only-stepped}
+use Rattle.drain.specs.declared.Started.{Started}
+use Rattle.drain.specs.Run.{Call, arrives, takes, starts, steps}
+use Rattle.drain.proofs.Only.{only-started}
 use Rattle.lent.specs.Calls.{AnswerTo, callLent}
 
 -- two pairs with one value each

@@ -4,8 +4,8 @@ use Prim.Native.Nat.{ℕ}
 use mathlib.Core.Path.{_≡_, ap, sym, _∙_}
 use mathlib.Core.Option.{some}
 use Rattle.receive_box.specs.declared.ReceiveBox.{ReceiveBox}
-use Rattle.receive_box.specs.Run.{Call, arrives, takes, starts, steps, refusedWith, refusalOf, after}
-use Rattle.receive_box.proofs.Refusals.{refusal-changes-nothing}
+use Rattle.drain.specs.Run.{Call, arrives, takes, starts, steps, refusedWith, refusalOf, after}
+use Rattle.drain.proofs.Refusals.{refusal-changes-nothing}
 use Rattle.lent.specs.Calls.{AnswerTo, callLent, refusedIn}
 
 -- what is answered and what is stored are those of the call by value

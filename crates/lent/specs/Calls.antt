@@ -9,11 +9,12 @@ use Rattle.queue.specs.Ring.{takeSaid}
 use Rattle.words.specs.declared.Words.{Words}
 use Rattle.receive_box.specs.declared.ReceiveBox.{ReceiveBox}
 use Rattle.receive_box.specs.declared.Arriving.{Arriving}
-use Rattle.receive_box.specs.declared.Starting.{Starting}
-use Rattle.receive_box.specs.declared.StepAnswer.{StepAnswer}
-use Rattle.receive_box.specs.Step.{stepSaid, stepOf}
-use Rattle.receive_box.specs.Calls.{arrivingSaid, arriveOf, takeOf, startingSaid, startOf}
-use Rattle.receive_box.specs.Run.{Call, arrives, takes, starts, steps, refusedWith}
+use Rattle.receive_box.specs.Calls.{arrivingSaid, arriveOf, takeOf}
+use Rattle.drain_steps.specs.declared.StepAnswer.{StepAnswer}
+use Rattle.drain_steps.specs.Step.{stepSaid, stepOf}
+use Rattle.drain.specs.declared.Starting.{Starting}
+use Rattle.drain.specs.Start.{startingSaid, startOf}
+use Rattle.drain.specs.Run.{Call, arrives, takes, starts, steps, refusedWith}
 
 abbrev pub arriveLent : ReceiveBox → List ℕ → Arriving → ReceiveBox → Type 0
 arriveLent entry frame answer exit = (arrivingSaid answer ≡ arriveOf entry frame .0) × (exit ≡ arriveOf entry frame .1)

@@ -1,10 +1,10 @@
 // The box lent by its caller: each call makes the call by value, and stores the box that comes of it.
 ghost use Rattle.lent.specs.Calls.{arriveLent, takeLent, startLent, stepLent};
+use drain::Starting;
+use drain_steps::StepAnswer;
 use queue::TakeAnswer;
 use receive_box::Arriving;
 use receive_box::ReceiveBox;
-use receive_box::Starting;
-use receive_box::StepAnswer;
 use words::Words;
 
 // A frame arrives at the controller.
@@ -29,7 +29,7 @@ pub fn take(state: &mut ReceiveBox) -> TakeAnswer
 pub fn start(state: &mut ReceiveBox, words: Words) -> Starting
     ensures { λ r. ⌜ startLent (now (state .entry)) words r (now (state .exit)) ⌝ }
 {
-    let started = (*state).start(words);
+    let started = drain::start(*state, words);
     *state = started.state;
     started.answer
 }
@@ -38,7 +38,7 @@ pub fn start(state: &mut ReceiveBox, words: Words) -> Starting
 pub fn step(state: &mut ReceiveBox) -> StepAnswer
     ensures { λ r. ⌜ stepLent (now (state .entry)) r (now (state .exit)) ⌝ }
 {
-    let stepped = (*state).step();
+    let stepped = drain::step(*state);
     *state = stepped.state;
     stepped.answer
 }

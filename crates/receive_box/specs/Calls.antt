@@ -1,25 +1,27 @@
--- A fresh box, an arrival, a take and a start.
--- Source: the outline, "The box", and refusals 8 and 10.
-use Prim.{Unit, tt}
+-- A fresh box, an arrival and a take.
+-- Source: the outline, "The box", and refusal 10.
 use Prim.Native.Nat.{ℕ}
 use mathlib.Core.Bool.{cond}
 use mathlib.Core.List.{List}
 use Rattle.laws.specs.Said.{Said, refuses, gives}
 use Rattle.refusals.specs.Table.{refusalSaid}
+use Rattle.queue.specs.declared.Record.{Record}
+use Rattle.queue.specs.declared.Queue.{Queue}
 use Rattle.queue.specs.Ring as Q
+use Rattle.fifo.specs.declared.Fifo.{Fifo}
 use Rattle.fifo.specs.Ring as F
-use Rattle.words.specs.declared.Words.{Words}
+use Rattle.receive_box.specs.declared.Phase as P
 use Rattle.receive_box.specs.declared.Phase.the-variants as phase
 use Rattle.receive_box.specs.declared.ReceiveBox.{ReceiveBox}
 use Rattle.receive_box.specs.declared.Arriving.{Arriving}
 use Rattle.receive_box.specs.declared.Arriving.the-variants as arriving
 use Rattle.receive_box.specs.declared.Arrived.{Arrived}
 use Rattle.receive_box.specs.declared.Taken.{Taken}
-use Rattle.receive_box.specs.declared.Starting.{Starting}
-use Rattle.receive_box.specs.declared.Starting.the-variants as starting
-use Rattle.receive_box.specs.declared.Started.{Started}
-use Rattle.receive_box.specs.Rules.{isIdle, boxOk}
-use Rattle.receive_box.specs.Step.{withOf, firstPhase}
+use Rattle.receive_box.specs.Rules.{boxOk}
+
+-- the box with another FIFO, queue, next step and held record; the words stay
+abbrev pub withOf : ReceiveBox → Fifo → Queue → P.Phase → Record → ReceiveBox
+withOf g f q p h = record { fifo = f; queue = q; phase = p; held = h; words = g .words }
 
 -- empty FIFO and queue, and no drain
 abbrev pub freshBox : ReceiveBox
@@ -55,17 +57,3 @@ takeOf g =
 
 abbrev pub takenSaid : Taken → Q.TakeSaid × ReceiveBox
 takenSaid r = (Q.takeSaid (r .answer), r .state)
-
--- a start stores its words
-abbrev pub begun : ReceiveBox → Words → ReceiveBox
-begun g w = record { fifo = g .fifo; queue = g .queue; phase = firstPhase w; held = g .held; words = w }
-
-unfoldable pub startOf : ReceiveBox → Words → Said (Unit {0}) × ReceiveBox
-startOf g w = cond (boxOk g) (cond (isIdle (g .phase)) (gives tt, begun g w) (refuses 8 0, g)) (refuses 10 0, g)
-
-abbrev pub startingSaid : Starting → Said (Unit {0})
-startingSaid starting.Started = gives tt
-startingSaid (starting.Refused f) = refusalSaid f
-
-abbrev pub startedSaid : Started → Said (Unit {0}) × ReceiveBox
-startedSaid r = (startingSaid (r .answer), r .state)

@@ -6,7 +6,7 @@ use native.Mathlib.Omega.{arith}
 use borrow.Author.Needs.{needs}
 use Rattle.laws.proofs.Laid.{set-laid}
 use Rattle.words.specs.declared.Words.{Words}
-use Rattle.receive_box.specs.Run.{arrives, takes, starts, steps}
+use Rattle.drain.specs.Run.{arrives, takes, starts, steps}
 use Rattle.box_script.specs.State.{stateAt}
 use Rattle.box_script.specs.Format.{calls, loads, tells}
 use Rattle.box_script.specs.Answers.{callAnswer, answerOf}

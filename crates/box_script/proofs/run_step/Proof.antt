@@ -5,7 +5,7 @@ use mathlib.Core.List.{List}
 use borrow.Author.Needs.{needs}
 use Rattle.laws.specs.Laid.{laid}
 use Rattle.receive_box.specs.declared.ReceiveBox.{ReceiveBox}
-use Rattle.receive_box.specs.Step.{StepSaid}
+use Rattle.drain_steps.specs.Step.{StepSaid}
 use Rattle.box_script.specs.Answers.{stepBytes}
 use Rattle.box_script.proofs.run_step.Statement.{statement}
 use Rattle.box_script.proofs.run_step.Tie as tie

@@ -1,8 +1,8 @@
 -- `box_script::step_bytes` meets its contract: each answer of a step has its bytes. Assumes nothing.
 use mathlib.Core.Path.{sym, ap, _∙_}
 use borrow.Author.Needs.{needs}
-use Rattle.receive_box.specs.declared.Stepping.{Stepping}
-use Rattle.receive_box.specs.Step.{steppingSaid}
+use Rattle.drain_steps.specs.declared.Stepping.{Stepping}
+use Rattle.drain_steps.specs.Step.{steppingSaid}
 use Rattle.box_script.specs.Answers.{stepBytes}
 use Rattle.box_script.proofs.step_bytes.Statement.{statement}
 use Rattle.box_script.proofs.step_bytes.Tie as tie

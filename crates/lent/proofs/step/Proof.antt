@@ -5,15 +5,15 @@ use denote.Struct.Laws as LL
 use denote.Triple.Spec.{tripleOf}
 use denote.Triple.Table.{entered, cited}
 use Rattle.receive_box.specs.declared.ReceiveBox.{ReceiveBox}
-use Rattle.receive_box.specs.declared.Stepped.{Stepped}
-use Rattle.receive_box.specs.Step.{steppedSaid, stepOf}
-use Rattle.receive_box.proofs.StepAnswer as A
-use Rattle.receive_box.proofs.StepAnswer.Laws as A′
-use Rattle.receive_box.proofs.Stepped as R
-use Rattle.receive_box.proofs.Stepped.Laws as R′
-use Rattle.receive_box.proofs.ReceiveBox.step.Symbol as g-def
-use Rattle.receive_box.proofs.ReceiveBox.step.Symbol.{name as #g}
-use Rattle.receive_box.proofs.ReceiveBox.step.Met as g-thm
+use Rattle.drain_steps.specs.declared.Stepped.{Stepped}
+use Rattle.drain_steps.specs.Step.{steppedSaid, stepOf}
+use Rattle.drain_steps.proofs.StepAnswer as A
+use Rattle.drain_steps.proofs.StepAnswer.Laws as A′
+use Rattle.drain_steps.proofs.Stepped as R
+use Rattle.drain_steps.proofs.Stepped.Laws as R′
+use Rattle.drain.proofs.step.Symbol as g-def
+use Rattle.drain.proofs.step.Symbol.{name as #g}
+use Rattle.drain.proofs.step.Met as g-thm
 use Rattle.lent.specs.Calls.{stepLent}
 use Rattle.lent.proofs.Lent.{Known, Plainly, Splits, of-struct}
 use Rattle.lent.proofs.Lent.Alone.{ByValue, lent}
@@ -54,4 +54,4 @@ step-spec 𝓤 H 𝓜 𝓖 𝓡 =
     entered 𝓤 H (tripleOf 𝓤 H (𝓖 .A) f.signature (f.spec 𝓤 H (𝓖 .A) (𝓜 .mem) (𝓡 .run)))
     (tables 𝓤 H 𝓜 𝓡 code.env .C) (tables 𝓤 H 𝓜 𝓡 code.env .Λ) #f code.function (code.unfolded 𝓤 H 𝓜 𝓡)
     (lent box result A.the-row answer splits Says stepLent so #g 𝓤 H (𝓖 .A) (givenOf 𝓤 H 𝓜 𝓖) (tablesOf 𝓤 H 𝓜 (tables 𝓤 H 𝓜 𝓡 code.env))
-    (cited 𝓤 H (ByValue box result A.the-row answer splits Says stepLent so #g 𝓤 H (𝓖 .A)) 𝓜 𝓡 code.env #g g-def.routine code.calls-receive-box·ReceiveBox·step (g-thm.met 𝓤 H 𝓜 𝓖 𝓡)))
+    (cited 𝓤 H (ByValue box result A.the-row answer splits Says stepLent so #g 𝓤 H (𝓖 .A)) 𝓜 𝓡 code.env #g g-def.routine code.calls-drain·step (g-thm.met 𝓤 H 𝓜 𝓖 𝓡)))
