@@ -5,7 +5,7 @@ use mathlib.Core.List.{List, [], _∷_, _++_}
 use lib.ListN.{replicate, take, set}
 use Rattle.laws.specs.Laid.{written}
 use Rattle.frame_file.specs.Reader.{framesFrom, framesAt, filtersFrom, readOf}
-use Rattle.frame_file.specs.Writer.{firstBadKind, writeOf, leaves}
+use Rattle.frame_file_writing.specs.Writer.{firstBadKind, writeOf, leaves}
 use Rattle.answers.specs.Answers.{answerOf}
 use Rattle.exports_files.specs.Numbers.{foundSaid}
 

@@ -4,12 +4,12 @@ ghost use Prim.Native.Nat.{_<_};
 ghost use lib.ListN.{length};
 ghost use Rattle.answers.specs.Answers.{answerOf};
 ghost use Rattle.frame_file.specs.Reader.{foundIn, readOf};
-ghost use Rattle.frame_file.specs.Writer.{writeOf, leaves};
+ghost use Rattle.frame_file_writing.specs.Writer.{writeOf, leaves};
 ghost use Rattle.exports_files.specs.Numbers.{foundNumber, foundSaid};
 use answers::Answer;
 use frame_file::Reading;
 use frame_file::Sections;
-use frame_file::Writing;
+use frame_file_writing::Writing;
 
 // Both counts and each section's start, in 16 bits each.
 fn found_number(sections: Sections) -> u64
@@ -39,7 +39,7 @@ pub extern "C" fn chherbolat_write_file(filters: &[u8], frames: &[u8], out: &mut
     ensures { λ r. ⌜ r ≡ answerOf (writeOf (now (filters .entry)) (now (frames .entry)) (length (now (out .entry)))) ⌝ }
     ensures { λ _. ⌜ now (out .exit) ≡ leaves (now (filters .entry)) (now (frames .entry)) (now (out .entry)) ⌝ }
 {
-    match frame_file::write_file(filters, frames, out) {
+    match frame_file_writing::write_file(filters, frames, out) {
         Writing::Written(length) => answers::given(length as u64),
         Writing::Refused(refusal) => answers::refused(refusal),
     }

@@ -4,7 +4,8 @@ use mathlib.Core.List.{[], _∷_, _++_}
 use lib.ListN.{replicate, take}
 use Rattle.laws.specs.Laid.{laying}
 use Rattle.frame_file.specs.Reader.{framesFrom, framesAt, filtersFrom, readOf}
-use Rattle.report.specs.Text.{digitsOf, decimal, badText, refusedText, atText, textOf}
+use Rattle.text.specs.Decimal.{digitsOf, decimal}
+use Rattle.report.specs.Text.{badText, refusedText, atText, textOf}
 use Rattle.report.proofs.Cases.{wholeCase, whole-case}
 use Rattle.answers.specs.Answers.{answerOf}
 

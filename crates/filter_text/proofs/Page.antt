@@ -1,19 +1,18 @@
--- Texts put on a page one behind another, numbers in hexadecimal, and how long a decimal number is. Assumes nothing.
-use Prim.Native.Nat.{ℕ, zero, suc, _+_, _*_, _/_, _%_, _^_, _≤_, _<_}
+-- Texts put on a page one behind another, and numbers in hexadecimal. Assumes nothing.
+use Prim.Native.Nat.{ℕ, _+_, _*_, _/_, _%_, _^_, _≤_, _<_}
 use mathlib.Core.Path.{_≡_, refl, sym, ap, ap₂, _∙_}
 use mathlib.Core.List.{List, [], _∷_, _++_, append-assoc}
 use lib.ListN.{length, getD, take, set, length-append}
 use lib.Seq.{take-suc, length-take-le}
-use native.Mathlib.Decide.{decLt}
 use native.Mathlib.Numerals.{add-one}
 use native.Mathlib.Omega.{arith}
 use Rattle.laws.specs.Laid.{laidFirst, laid}
 use Rattle.laws.proofs.Laid.{laid-then, set-then, laid-none}
-use Rattle.report.specs.Text.{decimal}
-use Rattle.report.proofs.Decimal.{step-long, small-long}
+use Rattle.text.specs.Decimal.{decimal}
+use Rattle.text.proofs.Decimal.{decimal-long}
 use Rattle.filter_text.specs.Text.{hexDigit, hexOf, patternText, registersText, identifiersText, linesText, lineText, faultText}
 
--- Texts put on a page one behind another, numbers in hexadecimal, and how long a decimal number is. Assumes nothing.
+-- Texts put on a page one behind another, and numbers in hexadecimal. Assumes nothing.
 
 -- one text behind another
 pub then-put : (a b page was now : List ℕ) (at : ℕ) → at ≡ length a → was ≡ laidFirst a page → now ≡ laid at b was → now ≡ laidFirst (a ++ b) page
@@ -21,15 +20,6 @@ then-put a b page was now at e w n = n ∙ ap (laid at b) w ∙ laid-then at 0 a
 
 pub then-set : (a page was : List ℕ) (at x : ℕ) → at ≡ length a → was ≡ laidFirst a page → at < length page → set was at x ≡ laidFirst (a ++ (x ∷ [])) page
 then-set a page was at x e w h = ap (λ (l : List ℕ). set l at x) w ∙ set-then at x 0 a page (omega (arith, e)) h
-
--- a number below a power of ten has at most so many digits
-pub decimal-long : (k n : ℕ) → n < 10 ^ suc k → length (decimal n) ≤ suc k
-decimal-long zero n h = omega (arith, small-long n (omega arith))
-decimal-long (suc k) n h =
-    elim (decLt n 10) [
-      | yes a ↦ omega (arith, small-long n a)
-      | no a ↦ omega (arith, step-long n (omega arith), decimal-long k (n / 10) (omega arith))
-    ]
 
 -- ---- bytes in hexadecimal
 hex-more : (a : List ℕ) (byte : ℕ) → hexOf (a ++ (byte ∷ [])) ≡ (hexOf a ++ (hexDigit (byte / 16) ∷ [])) ++ (hexDigit (byte % 16) ∷ [])

@@ -2,7 +2,7 @@
 use mathlib.Core.Path.{_≡_, refl}
 use mathlib.Core.Bool.{false}
 use mathlib.Core.List.{[], _∷_, _++_}
-use Rattle.report.specs.Text.{digitsOf, decimal}
+use Rattle.text.specs.Decimal.{digitsOf, decimal}
 use Rattle.filter_text.specs.Line.{isBlank, ends, unblanked, digitOf, numberFrom, numberOf, wordOf, lineOf}
 use Rattle.filter_text.specs.Lines.{linesOf, foundFrom, foundIn}
 use Rattle.filter_text.specs.Text.{lineText, wrongText, faultText, textOf}

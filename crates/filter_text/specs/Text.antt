@@ -10,7 +10,7 @@ use Rattle.filter_list.specs.Pattern.{widthOf, patternOf}
 use Rattle.filter_list.specs.Answers.{throughOf, registersOfList}
 use Rattle.filter_list.specs.declared.Listing.{Listing}
 use Rattle.filter_list.specs.declared.Listing.the-variants.{Made, Refused}
-use Rattle.report.specs.Text.{decimal}
+use Rattle.text.specs.Decimal.{decimal}
 use Rattle.filter_text.specs.Lines.{Found, listed, aboveAt, wrongAt, foundIn}
 
 -- a longer text is not read

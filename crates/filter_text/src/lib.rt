@@ -7,7 +7,6 @@ ghost use Rattle.laws.specs.Laid.{laidFirst, laid, laying, written};
 ghost use Rattle.identifiers.specs.Limits.{limitOf};
 ghost use Rattle.filter_list.specs.Pattern.{widthOf};
 ghost use Rattle.filter_list.specs.Answers.{firstAbove};
-ghost use Rattle.report.specs.Text.{decimal};
 ghost use Rattle.answers.specs.Answers.{answerOf};
 ghost use Rattle.filter_text.specs.Line.{isBlank, ends as Line·ends, unblanked, digitOf, baseOf, judged as Line·judged, numberFrom, numberOf, isHex, wordOf, lineOf};
 ghost use Rattle.filter_text.specs.Lines.{lineLength, identifiersOf, faulty, faultAt, foundIn, readingFound, readingWithin};
@@ -271,33 +270,6 @@ fn read_list(text: &[u8], limit: u32, list: &mut [u32]) -> Reading
     Reading::All(count)
 }
 
-// A text at a place of the page, and the place after it.
-fn put_text(page: &mut [u8], at: usize, text: &[u8]) -> usize
-    requires { ⌜ at + length (now text) ≤ length (now page) ⌝ }
-    ensures { λ r. ⌜ (r ≡ at + length (now (text .entry))) × (now (page .exit) ≡ laid at (now (text .entry)) (now (page .entry))) ⌝ }
-{
-    let mut i: usize = 0;
-    while i < text.len() {
-        page[at + i] = text[i];
-        i += 1;
-    }
-    at + i
-}
-
-// A number at a place, and the place after it.
-fn put_decimal(page: &mut [u8], at: usize, n: usize) -> usize
-    requires { ⌜ at + length (decimal n) ≤ length (now page) ⌝ }
-    ensures { λ r. ⌜ (r ≡ at + length (decimal n)) × (now (page .exit) ≡ laid at (decimal n) (now (page .entry))) ⌝ }
-{
-    if n < 10 {
-        page[at] = (48 + n) as u8;
-        return at + 1;
-    }
-    let last = put_decimal(page, at, n / 10);
-    page[last] = (48 + n % 10) as u8;
-    last + 1
-}
-
 fn hex_digit(digit: u8) -> u8
     requires { ⌜ digit < 16 ⌝ }
     ensures { λ r. ⌜ r ≡ hexDigit digit ⌝ }
@@ -362,13 +334,13 @@ fn put_lines(pattern: &[u8], registers: &[u8], through: usize, page: &mut [u8]) 
     ensures { λ r. ⌜ (r ≡ length (linesText (now (pattern .entry)) (now (registers .entry)) through))
         × (now (page .exit) ≡ laidFirst (linesText (now (pattern .entry)) (now (registers .entry)) through) (now (page .entry))) × (r ≤ 128) ⌝ }
 {
-    let first = put_text(page, 0, b"pattern ");
-    let second = put_text(page, first, pattern);
-    let third = put_text(page, second, b"\nregisters ");
+    let first = text::put_text(page, 0, b"pattern ");
+    let second = text::put_text(page, first, pattern);
+    let third = text::put_text(page, second, b"\nregisters ");
     let fourth = put_hex(page, third, registers);
-    let fifth = put_text(page, fourth, b"\nidentifiers ");
-    let sixth = put_decimal(page, fifth, through);
-    put_text(page, sixth, b"\n")
+    let fifth = text::put_text(page, fourth, b"\nidentifiers ");
+    let sixth = text::put_decimal(page, fifth, through);
+    text::put_text(page, sixth, b"\n")
 }
 
 // The text of a list's filter into the front of the page, and its length.
@@ -398,9 +370,9 @@ fn put_fault(number: usize, fault: &[u8], page: &mut [u8]) -> usize
     ensures { λ r. ⌜ (r ≡ length (faultText number (now (fault .entry))))
         × (now (page .exit) ≡ laidFirst (faultText number (now (fault .entry))) (now (page .entry))) × (r ≤ 128) ⌝ }
 {
-    let first = put_text(page, 0, b"line ");
-    let second = put_decimal(page, first, number);
-    put_text(page, second, fault)
+    let first = text::put_text(page, 0, b"line ");
+    let second = text::put_decimal(page, first, number);
+    text::put_text(page, second, fault)
 }
 
 fn put_above(extended: bool, number: usize, page: &mut [u8]) -> usize
@@ -420,7 +392,7 @@ fn put_list(extended: bool, list: &[u32], page: &mut [u8]) -> usize
         × (now (page .exit) ≡ laidFirst (listText extended (now (list .entry))) (now (page .entry))) × (r ≤ 128) ⌝ }
 {
     if list.len() == 0 {
-        return put_text(page, 0, b"no identifiers\n");
+        return text::put_text(page, 0, b"no identifiers\n");
     }
     put_filter(extended, list, page)
 }
@@ -446,7 +418,7 @@ fn put_whole(extended: bool, text: &[u8], page: &mut [u8]) -> usize
         × (now (page .exit) ≡ laidFirst (textOf extended (now (text .entry))) (now (page .entry))) × (r ≤ 128) ⌝ }
 {
     if text.len() > TEXT_LIMIT {
-        return put_text(page, 0, b"longer than 65536 bytes\n");
+        return text::put_text(page, 0, b"longer than 65536 bytes\n");
     }
     put_read(extended, text, page)
 }

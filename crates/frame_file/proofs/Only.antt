@@ -1,15 +1,11 @@
--- An answer of the reader and of the writer is told by what is said of it, so two that meet a contract are equal. Assumes nothing.
-use Prim.Native.Nat.{ℕ}
+-- An answer of the reader is told by what is said of it, so two that meet a contract are equal. Assumes nothing.
 use mathlib.Core.Path.{_≡_, refl, ap}
 use Rattle.laws.specs.Said.{Said, refuses, gives}
 use Rattle.laws.proofs.Only.{only}
 use Rattle.refusals.proofs.Only.{refusalAt, refusal-at}
 use Rattle.frame_file.specs.Reader.{Found, readingSaid}
-use Rattle.frame_file.specs.Writer.{writingSaid}
 use Rattle.frame_file.specs.declared.Reading.{Reading}
 use Rattle.frame_file.specs.declared.Reading.the-variants as reading
-use Rattle.frame_file.specs.declared.Writing.{Writing}
-use Rattle.frame_file.specs.declared.Writing.the-variants as writing
 
 readingBack : Said Found → Reading
 readingBack (gives f) = reading.Read (record { filters = f .0; «filters_start» = f .1; frames = f .2; «frames_start» = f .3 })
@@ -22,15 +18,3 @@ reading-back (reading.Refused f) = ap reading.Refused (refusal-at f)
 
 pub only-read : (r s : Reading) → readingSaid r ≡ readingSaid s → r ≡ s
 only-read = only readingSaid readingBack reading-back
-
-writingBack : Said ℕ → Writing
-writingBack (gives length) = writing.Written length
-writingBack (refuses k n) = writing.Refused (refusalAt k n)
-
-writing-back : (r : Writing) → writingBack (writingSaid r) ≡ r
-unfolding writingBack
-writing-back (writing.Written length) = refl
-writing-back (writing.Refused f) = ap writing.Refused (refusal-at f)
-
-pub only-written : (r s : Writing) → writingSaid r ≡ writingSaid s → r ≡ s
-only-written = only writingSaid writingBack writing-back

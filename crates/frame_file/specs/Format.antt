@@ -1,8 +1,8 @@
 -- The frame file: filters, then frames, each section after its count.
 -- Source: the outline, "Frame file and program".
-use Prim.Native.Nat.{ℕ, _+_, _*_, _/_, _%_, _≤_, _<_}
+use Prim.Native.Nat.{ℕ, _+_, _*_, _≤_, _<_}
 use mathlib.Core.Path.{_≡_}
-use mathlib.Core.List.{List, _∷_, _++_}
+use mathlib.Core.List.{List}
 use lib.ListN.{length, getD, take, drop}
 
 -- the most filters that a file has, and the most frames
@@ -49,16 +49,3 @@ filtersIn s filters = take (filterBytes * filters) (drop 1 s)
 
 abbrev pub framesIn : List ℕ → ℕ → ℕ → List ℕ
 framesIn s filters frames = take (frameBytes * frames) (drop (framesStart filters) s)
-
--- the file of these entries
-abbrev pub filterCount : List ℕ → ℕ
-filterCount filters = length filters / filterBytes
-
-abbrev pub frameCount : List ℕ → ℕ
-frameCount frames = length frames / frameBytes
-
-abbrev pub framesPart : List ℕ → List ℕ
-framesPart frames = frameCount frames / 256 ∷ frameCount frames % 256 ∷ frames
-
-abbrev pub fileOf : List ℕ → List ℕ → List ℕ
-fileOf filters frames = filterCount filters ∷ (filters ++ framesPart frames)

@@ -5,10 +5,11 @@ use mathlib.Core.List.{List, [], _∷_, _++_}
 use lib.ListN.{replicate}
 use Rattle.filter_patterns.specs.Table.{fieldsOf}
 use Rattle.frames.specs.Buffer.{dataLengthOf, dataOf}
+use Rattle.text.specs.Decimal.{digitsOf, decimal}
 use Rattle.frame_file.specs.Reader.{framesFrom, framesAt, filtersFrom, readOf}
 use Rattle.matcher.specs.Match.{numbersIn, allFit, fitsEither, acceptsOf}
 use Rattle.matcher.specs.Words.{matchOf}
-use Rattle.report.specs.Text.{digitsOf, decimal, acceptsAt, marksFrom, anyFrom, marksOf, lineOf, linesFrom, countFrom, goodText, badText, acceptedText, textOf}
+use Rattle.report.specs.Text.{acceptsAt, marksFrom, anyFrom, marksOf, lineOf, linesFrom, countFrom, goodText, badText, acceptedText, textOf}
 
 abbrev pub wholeCase : List ℕ
 wholeCase =

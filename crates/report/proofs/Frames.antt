@@ -12,10 +12,11 @@ use Rattle.laws.proofs.Laid.{set-then, laid-then}
 use Rattle.frame_file.specs.Format.{filterLimit, frameLimit, filterBytes, frameBytes, framesStart, File}
 use Rattle.frame_file.specs.Reader.{Found, readOf}
 use Rattle.frame_file.proofs.Format.{read-good}
-use Rattle.report.specs.Text.{decimal, acceptsAt, anyFrom, lineOf, linesFrom, countFrom, acceptedText, refusedText, atText, goodText, badText, readText, textOf}
+use Rattle.text.specs.Decimal.{decimal}
+use Rattle.text.proofs.Decimal.{decimal-long}
+use Rattle.report.specs.Text.{acceptsAt, anyFrom, lineOf, linesFrom, countFrom, acceptedText, refusedText, atText, goodText, badText, readText, textOf}
 use Rattle.report.specs.Length.{lineLength, linesLength}
 use Rattle.report.proofs.Text.{lines-snoc, lines-long, count-snoc, count-le, long-more}
-use Rattle.report.proofs.Decimal.{decimal-four}
 
 module _ (s : List ℕ) (f : ℕ) where
   pub any-hit : (left a : ℕ) (w : Bool) → 0 < left → acceptsAt s a f ≡ true → anyFrom s f left a ≡ w → true ≡ w
@@ -81,7 +82,7 @@ module _ (s : List ℕ) (n a second : ℕ) where
   good-long m = simp length-append (omega (arith, lines-long s n a m second))
 
   pub good-most : (m : ℕ) → m ≤ frameLimit → length (goodText s n a m second) ≤ linesLength n m + 14
-  good-most m h = omega (arith, good-long m, decimal-four (countFrom s n a m second) (omega (arith, count-le s n a m second)))
+  good-most m h = omega (arith, good-long m, decimal-long 3 (countFrom s n a m second) (omega (arith, count-le s n a m second)))
 
   pub good-put : (m at p q count : ℕ) (out one two three : List ℕ) → length (goodText s n a m second) ≤ length out
       → at ≡ linesLength n m → count ≡ countFrom s n a m second → one ≡ laid 0 (linesFrom s n a m 0 second) out

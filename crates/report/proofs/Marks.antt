@@ -19,7 +19,8 @@ use Rattle.frame_file.specs.Format.{filterBytes, frameBytes}
 use Rattle.matcher.specs.declared.Shown.{Shown}
 use Rattle.matcher.specs.Words.{showOf, compareOf}
 use Rattle.matcher.proofs.Positions.{compare-is}
-use Rattle.report.specs.Text.{verdict, decimal, acceptsAt, marksFrom, anyFrom, marksOf, lineOf}
+use Rattle.text.specs.Decimal.{decimal}
+use Rattle.report.specs.Text.{verdict, acceptsAt, marksFrom, anyFrom, marksOf, lineOf}
 use Rattle.report.specs.Length.{widthOf}
 use Rattle.report.proofs.Text.{marks-snoc, marks-long, any-snoc}
 

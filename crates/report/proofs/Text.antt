@@ -7,7 +7,8 @@ use lib.Dec.{eqb}
 use lib.ListN.{length, length-append}
 use native.Mathlib.Omega.{arith}
 use Rattle.frame_file.specs.Format.{filterBytes, frameBytes}
-use Rattle.report.specs.Text.{decimal, acceptsAt, marksFrom, anyFrom, marksOf, lineOf, linesFrom, countFrom}
+use Rattle.text.specs.Decimal.{decimal}
+use Rattle.report.specs.Text.{acceptsAt, marksFrom, anyFrom, marksOf, lineOf, linesFrom, countFrom}
 use Rattle.report.specs.Length.{widthOf, lineLength, linesLength}
 
 module _ (s : List ℕ) (f : ℕ) where

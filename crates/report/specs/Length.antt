@@ -4,7 +4,7 @@ use Prim.Native.Nat.{ℕ, zero, suc, _+_}
 use mathlib.Core.Bool.{cond}
 use lib.Dec.{eqb}
 use lib.ListN.{length}
-use Rattle.report.specs.Text.{decimal}
+use Rattle.text.specs.Decimal.{decimal}
 
 -- a mark for each filter, or one `-`
 unfoldable pub widthOf : ℕ → ℕ

@@ -1,23 +1,16 @@
 -- The text that the program prints for a file, from the verdicts of the matcher; each number below is a character.
 -- Source: the outline, "Frame file and program".
-use Prim.Native.Nat.{ℕ, zero, suc, _+_, _/_, _%_}
+use Prim.Native.Nat.{ℕ, zero, suc, _+_}
 use mathlib.Core.Bool.{Bool, true, false, cond}
 use mathlib.Core.List.{List, [], _∷_, _++_}
-use lib.Dec.{ltb, eqb}
+use lib.Dec.{eqb}
 use lib.ListN.{getD}
 use Rattle.laws.specs.Said.{Said, refuses, gives}
 use Rattle.laws.specs.Tabulate.{part}
+use Rattle.text.specs.Decimal.{decimal}
 use Rattle.frame_file.specs.Format.{filterBytes, frameBytes}
 use Rattle.frame_file.specs.Reader.{Found, readOf}
 use Rattle.matcher.specs.Words.{matchOf}
-
--- a number in decimal, with the fewest digits: at most k of them
-unfoldable pub digitsOf : ℕ → ℕ → List ℕ
-digitsOf zero n = []
-digitsOf (suc k) n = cond (ltb n 10) ((48 + n) ∷ []) (digitsOf k (n / 10) ++ ((48 + n % 10) ∷ []))
-
-unfoldable pub decimal : ℕ → List ℕ
-decimal n = digitsOf (suc n) n
 
 -- the filter at a place, a kind and its registers, accepts the frame at a place
 abbrev pub verdict : Said Bool → Bool

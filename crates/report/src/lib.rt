@@ -2,7 +2,7 @@
 // In all functions `first` is where the filters start, `second` where the frames do.
 ghost use mathlib.Core.Path.{_≡_};
 ghost use mathlib.Core.Bool.{cond, true, false};
-ghost use Prim.Native.Nat.{_+_, _*_, _/_, _^_, _<_, _≤_};
+ghost use Prim.Native.Nat.{_+_, _*_, _^_, _<_, _≤_};
 ghost use lib.ListN.{length, getD};
 ghost use Rattle.laws.specs.Row.{bytes, pack};
 ghost use Rattle.laws.specs.Tabulate.{part};
@@ -10,7 +10,7 @@ ghost use Rattle.laws.specs.Laid.{laidFirst, laid, laying, written};
 ghost use Rattle.filter_patterns.specs.Registers.{codeIn, maskIn};
 ghost use Rattle.frame_file.specs.Format.{filterLimit, frameLimit, filterBytes, frameBytes};
 ghost use Rattle.matcher.specs.Words.{showOf, compareOf, matchingSaid};
-ghost use Rattle.report.specs.Text.{decimal, verdict, marksFrom, anyFrom, lineOf, linesFrom, countFrom, goodText, badText, textOf};
+ghost use Rattle.report.specs.Text.{verdict, marksFrom, anyFrom, lineOf, linesFrom, countFrom, goodText, badText, textOf};
 ghost use Rattle.report.specs.Length.{lineLength, linesLength, widthOf};
 ghost use Rattle.report.specs.Answer.{reportingSaid};
 use frame_file::FILTER_BYTES;
@@ -23,50 +23,6 @@ use refusals::Refusal;
 pub enum Reporting {
     Reported(usize),
     Refused(Refusal),
-}
-
-// How many digits a number has.
-fn digits(n: usize) -> usize
-    ensures { λ r. ⌜ (r ≡ length (decimal n)) × (r ≤ n / 10 + 1) ⌝ }
-{
-    if n < 10 {
-        return 1;
-    }
-    digits(n / 10) + 1
-}
-
-// A number at a place, and the place after it; two digits a call.
-fn put_decimal(out: &mut [u8], at: usize, n: usize) -> usize
-    requires { ⌜ at + length (decimal n) ≤ length (now out) ⌝ }
-    ensures { λ r. ⌜ (r ≡ at + length (decimal n)) × (now (out .exit) ≡ laid at (decimal n) (now (out .entry))) ⌝ }
-{
-    if n < 10 {
-        out[at] = (48 + n) as u8;
-        return at + 1;
-    }
-    let tenth = n / 10;
-    if tenth < 10 {
-        out[at] = (48 + tenth) as u8;
-        out[at + 1] = (48 + n % 10) as u8;
-        return at + 2;
-    }
-    let last = put_decimal(out, at, tenth / 10);
-    out[last] = (48 + tenth % 10) as u8;
-    out[last + 1] = (48 + n % 10) as u8;
-    last + 2
-}
-
-// A text at a place, and the place after it.
-fn put_text(out: &mut [u8], at: usize, text: &[u8]) -> usize
-    requires { ⌜ at + length (now text) ≤ length (now out) ⌝ }
-    ensures { λ r. ⌜ (r ≡ at + length (now (text .entry))) × (now (out .exit) ≡ laid at (now (text .entry)) (now (out .entry))) ⌝ }
-{
-    let mut i: usize = 0;
-    while i < text.len() {
-        out[at + i] = text[i];
-        i += 1;
-    }
-    at + i
 }
 
 fn wide(byte: u8) -> u32
@@ -200,7 +156,7 @@ fn put_line(
         × (r .any ≡ anyFrom (now (file .entry)) frame filters first)
         × (now (out .exit) ≡ laid at (lineOf (now (file .entry)) filters first index frame) (now (out .entry))) ⌝ }
 {
-    let space = put_decimal(out, at, index);
+    let space = text::put_decimal(out, at, index);
     out[space] = 32;
     let marks = space + 1;
     if filters == 0 {
@@ -282,7 +238,7 @@ fn lines_length(filters: usize, frames: usize) -> usize
     let mut length: usize = 0;
     let mut i: usize = 0;
     while i < frames {
-        length += digits(i) + 2 + marks;
+        length += text::digits(i) + 2 + marks;
         i += 1;
     }
     length
@@ -345,8 +301,8 @@ fn put_good(
         × (now (out .exit) ≡ laidFirst (goodText (now (file .entry)) filters first frames second) (now (out .entry))) ⌝ }
 {
     let lines = put_lines(file, filters, first, frames, second, out);
-    let number = put_text(out, lines.end, b"accepted ");
-    let newline = put_decimal(out, number, lines.count);
+    let number = text::put_text(out, lines.end, b"accepted ");
+    let newline = text::put_decimal(out, number, lines.count);
     out[newline] = 10;
     newline + 1
 }
@@ -372,7 +328,7 @@ fn report_good(
         return Reporting::Reported(put_good(file, filters, first, frames, second, out));
     }
     let count = accepted(file, filters, first, frames, second);
-    let needed = lines + (9 + (digits(count) + 1));
+    let needed = lines + (9 + (text::digits(count) + 1));
     if out.len() < needed {
         return Reporting::Refused(Refusal::OutputTooShort(needed));
     }
@@ -383,14 +339,14 @@ fn report_bad(number: usize, place: usize, out: &mut [u8]) -> Reporting
     ensures { λ r. ⌜ (reportingSaid r ≡ laying (badText number place) (now (out .entry)))
         × (now (out .exit) ≡ written (laying (badText number place) (now (out .entry))) (badText number place) (now (out .entry))) ⌝ }
 {
-    let needed = 8 + (digits(number) + (4 + (digits(place) + 1)));
+    let needed = 8 + (text::digits(number) + (4 + (text::digits(place) + 1)));
     if out.len() < needed {
         return Reporting::Refused(Refusal::OutputTooShort(needed));
     }
-    let start = put_text(out, 0, b"refused ");
-    let end = put_decimal(out, start, number);
-    let at = put_text(out, end, b" at ");
-    let newline = put_decimal(out, at, place);
+    let start = text::put_text(out, 0, b"refused ");
+    let end = text::put_decimal(out, start, number);
+    let at = text::put_text(out, end, b" at ");
+    let newline = text::put_decimal(out, at, place);
     out[newline] = 10;
     Reporting::Reported(needed)
 }

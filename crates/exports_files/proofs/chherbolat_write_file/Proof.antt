@@ -2,7 +2,7 @@
 use mathlib.Core.Path.{ap, sym, _∙_}
 use borrow.Author.Needs.{needs}
 use Rattle.answers.specs.Answers.{answerOf}
-use Rattle.frame_file.specs.Writer.{writingSaid}
+use Rattle.frame_file_writing.specs.Writer.{writingSaid}
 use Rattle.exports_files.proofs.chherbolat_write_file.Statement.{statement}
 use Rattle.exports_files.proofs.chherbolat_write_file.Tie as tie
 

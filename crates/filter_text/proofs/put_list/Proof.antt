@@ -1,6 +1,7 @@
 -- `filter_text::put_list` meets its contract: an empty list has its own text. Assumes nothing.
 use native.Mathlib.Omega.{arith}
 use borrow.Author.Needs.{needs}
+use Rattle.text.proofs.Put.{place-put, text-put}
 use Rattle.filter_text.specs.Text.{noneText, filterText}
 use Rattle.filter_text.proofs.Listed.{put-as, list-none, list-some}
 use Rattle.filter_text.proofs.put_list.Statement.{statement}
@@ -16,7 +17,10 @@ same-length : tie.Need-same-length
 same-length c = search needs
 
 returns : tie.Need-returns
-returns c = put-as noneText _ (c .before .before .before .before .before .before .before .before .args .page .now) _ _ (list-none (c .before .before .before .before .before .before .before .before .args .extended) (c .before .before .before .before .before .before .before .before .args .list .now) (c .before .before .before .before .before .if1 .taken)) (c .before .before .put-text .ensures .0, c .before .before .put-text .ensures .1, omega (arith, c .before .before .put-text .ensures .0))
+returns c =
+    let place = place-put 0 _ noneText (c .before .before .before .before .before .before .before .before .args .page .now) (c .before .before .put-text .ensures .0) (omega arith) in
+    put-as noneText _ (c .before .before .before .before .before .before .before .before .args .page .now) _ _ (list-none (c .before .before .before .before .before .before .before .before .args .extended) (c .before .before .before .before .before .before .before .before .args .list .now) (c .before .before .before .before .before .if1 .taken))
+    (place, text-put 0 noneText (c .before .before .before .before .before .before .before .before .args .page .now) _ (c .before .before .put-text .ensures .1) (omega arith), omega (arith, place))
 
 put-filter-requires : tie.Need-put-filter-requires
 put-filter-requires c κs = search needs

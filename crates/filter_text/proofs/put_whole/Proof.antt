@@ -3,7 +3,8 @@ use lib.ListN.{length}
 use native.Mathlib.Omega.{arith}
 use borrow.Author.Tests.{le-leb, lt-leb}
 use borrow.Author.Needs.{needs}
-use Rattle.filter_text.specs.Text.{textOf}
+use Rattle.text.proofs.Put.{place-put, text-put}
+use Rattle.filter_text.specs.Text.{longText, textOf}
 use Rattle.filter_text.proofs.put_whole.Statement.{statement}
 use Rattle.filter_text.proofs.put_whole.Tie as tie
 
@@ -18,7 +19,9 @@ same-length c = search needs
 
 returns : tie.Need-returns
 unfolding textOf
-returns c = rw (lt-leb (length (c .before .before .before .before .before .before .before .before .args .text .now)) 65536 (c .before .before .before .before .before .if1 .taken)) (c .before .before .put-text .ensures .0, c .before .before .put-text .ensures .1, omega (arith, c .before .before .put-text .ensures .0))
+returns c =
+    let place = place-put 0 _ longText (c .before .before .before .before .before .before .before .before .args .page .now) (c .before .before .put-text .ensures .0) (omega arith) in
+    rw (lt-leb (length (c .before .before .before .before .before .before .before .before .args .text .now)) 65536 (c .before .before .before .before .before .if1 .taken)) (place, text-put 0 longText (c .before .before .before .before .before .before .before .before .args .page .now) _ (c .before .before .put-text .ensures .1) (omega arith), omega (arith, place))
 
 put-read-requires : tie.Need-put-read-requires
 put-read-requires c κs = search needs

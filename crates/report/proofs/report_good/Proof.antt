@@ -5,7 +5,8 @@ use lib.ListN.{length}
 use native.Mathlib.Omega.{arith}
 use borrow.Author.Needs.{needs}
 use Rattle.laws.proofs.Laid.{laying-short, laying-fits}
-use Rattle.report.specs.Text.{decimal, goodText}
+use Rattle.text.specs.Decimal.{decimal}
+use Rattle.report.specs.Text.{goodText}
 use Rattle.report.proofs.Frames.{good-long, good-most}
 use Rattle.report.proofs.report_good.Statement.{statement}
 use Rattle.report.proofs.report_good.Tie as tie
