@@ -6,7 +6,7 @@ ghost use Rattle.laws.specs.Said.{gives};
 ghost use Rattle.answers.specs.Answers.{answerOf};
 ghost use Rattle.decisions.specs.Answers.{commandSaid, transmitSaid, pollSaid, receiveSaid};
 ghost use Rattle.decisions.specs.Decisions.{transmitOf, pollOf, receiveOf};
-ghost use Rattle.exports_decisions.specs.Numbers.{answerNumber, actionNumber, decided, polled};
+ghost use Rattle.exports_decisions.specs.Numbers.{answerNumber, actionNumber, decided, polled, withTransmit, withReceive};
 use answers::Answer;
 use decisions::Command;
 use decisions::PollAnswer;
@@ -24,14 +24,15 @@ fn command_number(command: Command) -> u64
     }
 }
 
+// The command goes with the answer, so one look at the answer gives both numbers.
 fn transmit_number(answer: TransmitAnswer) -> u64
-    ensures { λ r. ⌜ (r ≡ answerNumber (transmitSaid answer)) × (r ≤ 5) ⌝ }
+    ensures { λ r. ⌜ r ≡ decided (transmitSaid answer, withTransmit (transmitSaid answer)) ⌝ }
 {
     match answer {
-        TransmitAnswer::Written => 0,
+        TransmitAnswer::Written => 0x200,
         TransmitAnswer::WouldBlock => 1,
         TransmitAnswer::BusOff => 3,
-        TransmitAnswer::TransmissionAborted => 4,
+        TransmitAnswer::TransmissionAborted => 0x104,
     }
 }
 
@@ -47,10 +48,10 @@ fn poll_number(answer: PollAnswer) -> u64
 }
 
 fn receive_number(answer: ReceiveAnswer) -> u64
-    ensures { λ r. ⌜ (r ≡ answerNumber (receiveSaid answer)) × (r ≤ 5) ⌝ }
+    ensures { λ r. ⌜ r ≡ decided (receiveSaid answer, withReceive (receiveSaid answer)) ⌝ }
 {
     match answer {
-        ReceiveAnswer::Received => 0,
+        ReceiveAnswer::Received => 0x300,
         ReceiveAnswer::WouldBlock => 1,
         ReceiveAnswer::BusOff => 3,
         ReceiveAnswer::Overrun => 5,
@@ -72,8 +73,7 @@ pub extern "C" fn chherbolat_transmit(status: u32, error_passive: bool) -> Answe
 {
     let decision = decisions::transmit(status, error_passive);
     let answer = decision.answer;
-    let command = decision.command;
-    answers::given(transmit_number(answer) + command_number(command) * 256)
+    answers::given(transmit_number(answer))
 }
 
 #[no_mangle]
@@ -93,6 +93,5 @@ pub extern "C" fn chherbolat_receive(status: u32) -> Answer
 {
     let decision = decisions::receive(status);
     let answer = decision.answer;
-    let command = decision.command;
-    answers::given(receive_number(answer) + command_number(command) * 256)
+    answers::given(receive_number(answer))
 }
