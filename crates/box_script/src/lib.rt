@@ -119,18 +119,11 @@ fn length_at(script: &[u8], at: usize) -> usize
     0
 }
 
-fn wide(byte: u8) -> u32
-    ensures { λ r. ⌜ (r ≡ byte) × (r < 256) ⌝ }
-{
-    byte as u32
-}
-
 fn word_at(script: &[u8], at: usize) -> u32
     requires { ⌜ at + 4 ≤ length (now script) ⌝ }
     ensures { λ r. ⌜ r ≡ wordAt (now (script .entry)) at ⌝ }
 {
-    wide(script[at]) * 0x100_0000
-        + (wide(script[at + 1]) * 0x1_0000 + (wide(script[at + 2]) * 0x100 + wide(script[at + 3])))
+    octets::word(script[at], script[at + 1], script[at + 2], script[at + 3])
 }
 
 fn words_at(script: &[u8], at: usize) -> Words
@@ -430,12 +423,6 @@ fn command_byte(command: Command) -> u8
     }
 }
 
-fn low_byte(word: u32) -> u8
-    ensures { λ r. ⌜ r ≡ word % 256 ⌝ }
-{
-    (word % 256) as u8
-}
-
 fn told_bytes(told: u8, command: Command, lost: Record, finished: Finished) -> [u8; 23]
     ensures { λ r. ⌜ r ≡ 0 ∷ told ∷ commandByte command ∷ (recordBytes lost ++ finishedBytes finished) ⌝ }
 {
@@ -462,10 +449,10 @@ fn told_bytes(told: u8, command: Command, lost: Record, finished: Finished) -> [
         bytes[12],
         finished.transmit_wakes,
         finished.error_wakes,
-        low_byte(enable >> 24),
-        low_byte(enable >> 16),
-        low_byte(enable >> 8),
-        low_byte(enable),
+        octets::low_byte(enable >> 24),
+        octets::low_byte(enable >> 16),
+        octets::low_byte(enable >> 8),
+        octets::low_byte(enable),
     ]
 }
 
@@ -592,10 +579,10 @@ fn word_bytes(word: u32) -> [u8; 4]
     ensures { λ r. ⌜ r ≡ unpack (bytes 4) word ⌝ }
 {
     [
-        low_byte(word >> 24),
-        low_byte(word >> 16),
-        low_byte(word >> 8),
-        low_byte(word),
+        octets::low_byte(word >> 24),
+        octets::low_byte(word >> 16),
+        octets::low_byte(word >> 8),
+        octets::low_byte(word),
     ]
 }
 

@@ -111,17 +111,10 @@ fn compile(extended: bool, pattern: &[u8]) -> [u8; 8]
     SingleStandardFilter::new(pattern, b"x", b"xxxxxxxx", b"xxxxxxxx").registers
 }
 
-fn wide(byte: u8) -> u32
-    ensures { λ r. ⌜ (r ≡ byte) × (r < 256) ⌝ }
-{
-    byte as u32
-}
-
 fn mask_word(registers: &[u8; 8]) -> u32
     ensures { λ r. ⌜ (r ≡ maskIn (now (registers .entry))) × (r < 2 ^ 32) ⌝ }
 {
-    wide(registers[4]) * 0x100_0000
-        + (wide(registers[5]) * 0x1_0000 + (wide(registers[6]) * 0x100 + wide(registers[7])))
+    octets::word(registers[4], registers[5], registers[6], registers[7])
 }
 
 // The identifier has the highest positions: 31 to 21, or 31 to 3.

@@ -14,21 +14,6 @@ use identifiers::Id;
 use identifiers::StandardId;
 use refusals::Refusal;
 
-fn one_bit(flag: bool) -> u32
-    ensures { λ r. ⌜ (r ≡ bit flag) × (r < 2) ⌝ }
-{
-    if flag {
-        return 1;
-    }
-    0
-}
-
-fn wide(byte: u8) -> u32
-    ensures { λ r. ⌜ (r ≡ byte) × (r < 256) ⌝ }
-{
-    byte as u32
-}
-
 fn standard_raw(id: StandardId) -> u32
     requires { ⌜ id .0 < 2048 ⌝ }
     ensures { λ r. ⌜ (r ≡ id .0) × (r < 2048) ⌝ }
@@ -40,14 +25,15 @@ fn single_standard_word(id: StandardId, rtr: bool, first: u8, second: u8) -> u32
     requires { ⌜ id .0 < 2048 ⌝ }
     ensures { λ r. ⌜ r ≡ laidOf (fieldsOf singleStandard) (id .0 ∷ bit rtr ∷ first ∷ second ∷ []) ⌝ }
 {
-    standard_raw(id) * 0x20_0000 + (one_bit(rtr) * 0x10_0000 + (wide(first) * 0x100 + wide(second)))
+    standard_raw(id) * 0x20_0000
+        + (octets::one_bit(rtr) * 0x10_0000 + (octets::wide(first) * 0x100 + octets::wide(second)))
 }
 
 fn single_extended_word(id: ExtendedId, rtr: bool) -> u32
     requires { ⌜ id .0 < 0x2000_0000 ⌝ }
     ensures { λ r. ⌜ r ≡ laidOf (fieldsOf singleExtended) (id .0 ∷ bit rtr ∷ []) ⌝ }
 {
-    id.0 * 8 + one_bit(rtr) * 4
+    id.0 * 8 + octets::one_bit(rtr) * 4
 }
 
 fn dual_standard_word(
@@ -60,11 +46,11 @@ fn dual_standard_word(
     requires { ⌜ (first .0 < 2048) × (second .0 < 2048) ⌝ }
     ensures { λ r. ⌜ r ≡ laidOf (fieldsOf dualStandard) (first .0 ∷ bit «first_rtr» ∷ payload ∷ second .0 ∷ bit «second_rtr» ∷ []) ⌝ }
 {
-    let high = wide(payload) / 16;
-    let low = wide(payload) % 16;
+    let high = octets::wide(payload) / 16;
+    let low = octets::wide(payload) % 16;
     let upper = standard_raw(first) * 0x20_0000
-        + (one_bit(first_rtr) * 0x10_0000 + high * 0x1_0000);
-    upper + (standard_raw(second) * 0x20 + (one_bit(second_rtr) * 0x10 + low))
+        + (octets::one_bit(first_rtr) * 0x10_0000 + high * 0x1_0000);
+    upper + (standard_raw(second) * 0x20 + (octets::one_bit(second_rtr) * 0x10 + low))
 }
 
 fn dual_extended_word(first: u16, second: u16) -> u32

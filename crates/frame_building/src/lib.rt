@@ -82,12 +82,6 @@ fn info(extended: bool, remote: bool, own: bool, code: u8) -> u8
     one_bit(extended) * 128 + (one_bit(remote) * 64 + (one_bit(own) * 16 + code))
 }
 
-fn low_byte(n: u32) -> u8
-    ensures { λ r. ⌜ r ≡ n % 256 ⌝ }
-{
-    (n % 256) as u8
-}
-
 // The buffer of a frame without data.
 fn front(id: Id, remote: bool, own: bool, code: u8) -> [u8; 13]
     requires { ⌜ (rawOf id ≤ limitOf (isExtended id)) × (code < 16) ⌝ }
@@ -99,8 +93,8 @@ fn front(id: Id, remote: bool, own: bool, code: u8) -> [u8; 13]
             let first = info(false, remote, own, code);
             [
                 first,
-                low_byte(word >> 8),
-                low_byte(word),
+                octets::low_byte(word >> 8),
+                octets::low_byte(word),
                 0,
                 0,
                 0,
@@ -116,13 +110,13 @@ fn front(id: Id, remote: bool, own: bool, code: u8) -> [u8; 13]
         Id::Extended(extended) => {
             let word = extended.0 * 8;
             let first = info(true, remote, own, code);
-            let high = low_byte(word >> 24);
+            let high = octets::low_byte(word >> 24);
             [
                 first,
                 high,
-                low_byte(word >> 16),
-                low_byte(word >> 8),
-                low_byte(word),
+                octets::low_byte(word >> 16),
+                octets::low_byte(word >> 8),
+                octets::low_byte(word),
                 0,
                 0,
                 0,

@@ -57,25 +57,17 @@ pub fn data_offset(frame: &[u8; 13]) -> usize
     if is_extended_format(frame) { 5 } else { 3 }
 }
 
-fn wide(byte: u8) -> u32
-    ensures { λ r. ⌜ (r ≡ byte) × (r < 256) ⌝ }
-{
-    byte as u32
-}
-
 fn standard_raw(frame: &[u8; 13]) -> u16
     ensures { λ r. ⌜ (r ≡ idIn false (now (frame .entry))) × (r ≤ limitOf false) ⌝ }
 {
-    let word = wide(frame[1]) * 0x100 + wide(frame[2]);
+    let word = octets::wide(frame[1]) * 0x100 + octets::wide(frame[2]);
     (word / 32) as u16
 }
 
 fn extended_raw(frame: &[u8; 13]) -> u32
     ensures { λ r. ⌜ (r ≡ idIn true (now (frame .entry))) × (r ≤ limitOf true) ⌝ }
 {
-    let word = wide(frame[1]) * 0x100_0000
-        + (wide(frame[2]) * 0x1_0000 + (wide(frame[3]) * 0x100 + wide(frame[4])));
-    word / 8
+    octets::word(frame[1], frame[2], frame[3], frame[4]) / 8
 }
 
 pub fn identifier(frame: &[u8; 13]) -> Identified

@@ -25,18 +25,11 @@ pub enum Reporting {
     Refused(Refusal),
 }
 
-fn wide(byte: u8) -> u32
-    ensures { λ r. ⌜ (r ≡ byte) × (r < 256) ⌝ }
-{
-    byte as u32
-}
-
 fn word_at(file: &[u8], at: usize) -> u32
     requires { ⌜ at + 4 ≤ length (now file) ⌝ }
     ensures { λ r. ⌜ (r ≡ pack (bytes 4) (part (now (file .entry)) at 4)) × (r < 2 ^ 32) ⌝ }
 {
-    wide(file[at]) * 0x100_0000
-        + (wide(file[at + 1]) * 0x1_0000 + (wide(file[at + 2]) * 0x100 + wide(file[at + 3])))
+    octets::word(file[at], file[at + 1], file[at + 2], file[at + 3])
 }
 
 fn frame_at(file: &[u8], at: usize) -> [u8; 13]

@@ -1,0 +1,33 @@
+// Bytes and flags as numbers, with their bounds, a word from its four bytes, and its lowest byte.
+ghost use mathlib.Core.Path.{_≡_};
+ghost use mathlib.Core.List.{_∷_, []};
+ghost use Prim.Native.Nat.{_<_, _%_, _^_};
+ghost use Rattle.laws.specs.Row.{bit, pack, bytes};
+
+pub fn wide(byte: u8) -> u32
+    ensures { λ r. ⌜ (r ≡ byte) × (r < 256) ⌝ }
+{
+    byte as u32
+}
+
+pub fn one_bit(flag: bool) -> u32
+    ensures { λ r. ⌜ (r ≡ bit flag) × (r < 2) ⌝ }
+{
+    if flag {
+        return 1;
+    }
+    0
+}
+
+// The high byte first.
+pub fn word(a: u8, b: u8, c: u8, d: u8) -> u32
+    ensures { λ r. ⌜ (r ≡ pack (bytes 4) (a ∷ b ∷ c ∷ d ∷ [])) × (r < 2 ^ 32) ⌝ }
+{
+    wide(a) * 0x100_0000 + (wide(b) * 0x1_0000 + (wide(c) * 0x100 + wide(d)))
+}
+
+pub fn low_byte(word: u32) -> u8
+    ensures { λ r. ⌜ r ≡ word % 256 ⌝ }
+{
+    (word % 256) as u8
+}
