@@ -6,7 +6,7 @@ ghost use Rattle.laws.specs.Said.{gives};
 ghost use Rattle.laws.specs.Laid.{laidFirst};
 ghost use Rattle.refusals.specs.Table.{refusalSaid};
 ghost use Rattle.identifiers.specs.Limits.{limitOf};
-ghost use Rattle.filter_patterns.specs.Registers.{maskIn};
+ghost use Rattle.filter_registers.specs.Registers.{maskIn};
 ghost use Rattle.filter_list.specs.Pattern.{widthOf, characterAt, characterBy, downFrom};
 ghost use Rattle.filter_list.specs.Answers.{firstAbove, registersFor, throughOf, listedOf, leaves, listedSaid};
 use filters::SingleExtendedFilter;

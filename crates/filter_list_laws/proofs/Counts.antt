@@ -15,9 +15,9 @@ use Rattle.laws.specs.Bits.{bitAt}
 use Rattle.laws.specs.Row.{bit}
 use Rattle.laws.proofs.Bits.{bit-lt, bit-or, bit-here, bit-there, bit-past}
 use Rattle.laws.proofs.Bools.{both-left, both-right}
+use Rattle.filter_registers.specs.Registers.{codeIn, maskIn}
 use Rattle.filter_patterns.specs.Words.{isCharacter}
 use Rattle.filters.specs.Words.{written}
-use Rattle.filter_patterns.specs.Registers.{codeIn, maskIn}
 use Rattle.filter_patterns.specs.Meaning.{allCharacters, charactersIn}
 use Rattle.filter_patterns.proofs.Characters.{character-none}
 use Rattle.matcher.specs.Match.{fits, allFit}

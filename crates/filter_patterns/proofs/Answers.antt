@@ -8,9 +8,9 @@ use lib.ListN.{length, take, drop, replicate, length-append}
 use native.Mathlib.Omega.{arith}
 use borrow.Author.Tests.{eqb-true}
 use Rattle.laws.specs.Said.{Said, refuses, gives}
+use Rattle.filter_registers.specs.Registers.{registersOf}
 use Rattle.filter_patterns.specs.Table.{joined, places}
 use Rattle.filter_patterns.specs.Words.{one, care, wordFrom, codeOf, maskOf}
-use Rattle.filter_patterns.specs.Registers.{registersOf}
 use Rattle.filter_patterns.specs.Answers.{lengthsOf, charactersOf, answered, compileBy}
 use Rattle.filter_patterns.proofs.Characters.{one-not, care-not}
 use Rattle.filter_patterns.proofs.Words.{word-take}

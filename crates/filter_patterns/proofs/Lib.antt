@@ -1,7 +1,6 @@
 pub mod Table
 pub mod Characters
 pub mod Words
-pub mod Registers
 pub mod Joined
 pub mod Answers
 pub mod Agree
@@ -9,4 +8,3 @@ pub mod Both
 pub mod Means
 pub mod Mapped
 pub mod Back
-pub mod Only

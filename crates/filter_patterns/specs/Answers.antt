@@ -6,13 +6,9 @@ use mathlib.Core.List.{List, [], _∷_}
 use lib.Dec.{eqb, ltb}
 use lib.ListN.{length, replicate}
 use Rattle.laws.specs.Said.{Said, refuses, gives, accepted}
-use Rattle.refusals.specs.Table.{refusalSaid}
+use Rattle.filter_registers.specs.Registers.{registersOf}
 use Rattle.filter_patterns.specs.Table.{Filter, fieldsOf, rowOf, joined, lengths}
 use Rattle.filter_patterns.specs.Words.{codeOf, maskOf, badAt}
-use Rattle.filter_patterns.specs.Registers.{registersOf}
-use Rattle.filter_patterns.specs.declared.Compiling.{Compiling}
-use Rattle.filter_patterns.specs.declared.Compiling.the-variants.{Made, Refused}
-use Rattle.filter_patterns.specs.declared.Compiled.{Compiled}
 
 -- by the fields' widths and the patterns' lengths, counted from a field on; and what is said where all are right
 abbrev pub lengthsOf : ℕ → List ℕ → List ℕ → Said ℕ → Said ℕ
@@ -36,10 +32,3 @@ compileBy widths row patterns =
 
 unfoldable pub compileOf : Filter → List (List ℕ) → Said ℕ × List ℕ
 compileOf filter patterns = compileBy (lengths (fieldsOf filter)) (rowOf filter) patterns
-
-abbrev pub compilingSaid : Compiling → Said ℕ
-compilingSaid Made = gives 8
-compilingSaid (Refused f) = refusalSaid f
-
-abbrev pub compiledSaid : Compiled → Said ℕ × List ℕ
-compiledSaid r = (compilingSaid (r .answer), r .registers)

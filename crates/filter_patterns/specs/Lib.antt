@@ -1,5 +1,4 @@
 pub mod Table
 pub mod Words
-pub mod Registers
 pub mod Answers
 pub mod Meaning

@@ -1,4 +1,4 @@
--- What a filter accepts of a 32-bit word, said of its words, of its registers and of its patterns.
+-- What a filter accepts of a 32-bit word, said of its patterns; and the patterns that registers have.
 -- Source: ESP32-C3 manual, TWAI chapter, acceptance filter: a mask-register bit of 0 means compared; the outline, "Registers".
 use Prim.Native.Nat.{ℕ, _+_, _<_}
 use mathlib.Core.Path.{_≡_}
@@ -7,8 +7,8 @@ use mathlib.Core.List.{List, [], _∷_, map}
 use lib.Dec.{eqb, ltb}
 use lib.ListN.{length, getD}
 use Rattle.laws.specs.Bits.{bitAt}
+use Rattle.filter_registers.specs.Registers.{codeIn, maskIn}
 use Rattle.filter_patterns.specs.Words.{isCharacter}
-use Rattle.filter_patterns.specs.Registers.{codeIn, maskIn}
 
 -- no two of a row's positions are equal
 abbrev pub fresh : ℕ → List ℕ → Bool
@@ -27,14 +27,6 @@ within (p ∷ ps) = ltb p 32 && within ps
 abbrev pub allCharacters : List ℕ → Bool
 allCharacters [] = true
 allCharacters (c ∷ cs) = isCharacter c && allCharacters cs
-
--- code and word agree on each bit that the mask has compared
-abbrev pub Agree : ℕ → ℕ → ℕ → Type 0
-Agree code mask w = (k : ℕ) → bitAt mask k ≡ 1 → bitAt code k ≡ bitAt w k
-
--- the registers accept a word
-abbrev pub Accepts : List ℕ → ℕ → Type 0
-Accepts registers w = (k : ℕ) → k < 32 → bitAt (maskIn registers) k ≡ 0 → bitAt (codeIn registers) k ≡ bitAt w k
 
 -- each character other than `x` equals the word's bit at its position
 abbrev pub Matches : List ℕ → List ℕ → ℕ → Type 0

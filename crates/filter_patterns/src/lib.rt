@@ -7,24 +7,15 @@ ghost use lib.Bits.{bitOr};
 ghost use lib.ListN.{length, drop, getD, replicate};
 ghost use lib.Seq.{paste};
 ghost use Rattle.laws.specs.Said.{gives};
-ghost use Rattle.refusals.specs.Table.{refusalSaid};
+ghost use Rattle.filter_registers.specs.Registers.{registersOf};
+ghost use Rattle.filter_registers.specs.Answers.{compilingSaid, compiledSaid};
 ghost use Rattle.filter_patterns.specs.Table.{singleStandard, singleExtended, dualStandard, dualExtended, joined, places};
 ghost use Rattle.filter_patterns.specs.Words.{one, care, isCharacter, codeOf, maskOf, badFrom};
 ghost use Rattle.filter_patterns.specs.Meaning.{allCharacters};
-ghost use Rattle.filter_patterns.specs.Registers.{registersOf};
-ghost use Rattle.filter_patterns.specs.Answers.{lengthsOf, charactersOf, answered, compileOf, compilingSaid, compiledSaid};
+ghost use Rattle.filter_patterns.specs.Answers.{lengthsOf, charactersOf, answered, compileOf};
+use filter_registers::Compiled;
+use filter_registers::Compiling;
 use refusals::Refusal;
-
-pub enum Compiling {
-    Made,
-    Refused(Refusal),
-}
-
-// The answer, and the registers beside it: zeros after a refusal.
-pub struct Compiled {
-    pub answer: Compiling,
-    pub registers: [u8; 8],
-}
 
 // The rows of the four filters, one after the other: the register position of each pattern place.
 const PLACES: [u8; 122] = [
@@ -281,48 +272,6 @@ fn join(a: &[u8], b: &[u8], c: &[u8], d: &[u8], e: &[u8]) -> [u8; 32]
     with_field(four, fifth, e)
 }
 
-fn low_byte(word: u64) -> u8
-    ensures { λ r. ⌜ r ≡ word % 256 ⌝ }
-{
-    (word % 256) as u8
-}
-
-fn to_registers(code: u32, mask: u32) -> [u8; 8]
-    ensures { λ r. ⌜ r ≡ registersOf code mask ⌝ }
-{
-    let high = (code as u64) * 0x1_0000_0000;
-    let low = mask as u64;
-    let word = high + 0xFFFF_FFFF - low;
-    [
-        low_byte(word >> 56),
-        low_byte(word >> 48),
-        low_byte(word >> 40),
-        low_byte(word >> 32),
-        low_byte(word >> 24),
-        low_byte(word >> 16),
-        low_byte(word >> 8),
-        low_byte(word),
-    ]
-}
-
-pub fn refused(refusal: Refusal) -> Compiled
-    ensures { λ r. ⌜ compiledSaid r ≡ (refusalSaid refusal, replicate 8 0) ⌝ }
-{
-    Compiled {
-        answer: Compiling::Refused(refusal),
-        registers: [0; 8],
-    }
-}
-
-pub fn made(code: u32, mask: u32) -> Compiled
-    ensures { λ r. ⌜ compiledSaid r ≡ (gives 8, registersOf code mask) ⌝ }
-{
-    Compiled {
-        answer: Compiling::Made,
-        registers: to_registers(code, mask),
-    }
-}
-
 fn judge_lengths(row: Row, a: usize, b: usize, c: usize, d: usize, e: usize) -> Compiling
     ensures { λ r. ⌜ compilingSaid r ≡ lengthsOf 0 (row .a ∷ row .b ∷ row .c ∷ row .d ∷ row .e ∷ []) (a ∷ b ∷ c ∷ d ∷ e ∷ []) (gives 8) ⌝ }
 {
@@ -351,10 +300,10 @@ fn compile(start: usize, joined: &[u8; 32]) -> Compiled
 {
     let characters = &joined[..];
     if !all_known(characters) {
-        return refused(Refusal::PatternByte(first_bad(characters)));
+        return filter_registers::refused(Refusal::PatternByte(first_bad(characters)));
     }
     let words = fill(start, characters);
-    made(
+    filter_registers::made(
         (words % 0x1_0000_0000) as u32,
         (words / 0x1_0000_0000) as u32,
     )
@@ -372,7 +321,7 @@ pub fn single_standard(id: &[u8], rtr: &[u8], first: &[u8], second: &[u8]) -> Co
         e: 0,
     };
     match judge_lengths(row, id.len(), rtr.len(), first.len(), second.len(), 0) {
-        Compiling::Refused(refusal) => refused(refusal),
+        Compiling::Refused(refusal) => filter_registers::refused(refusal),
         Compiling::Made => {
             let characters = join(id, rtr, first, second, b"");
             compile(row.start, &characters)
@@ -392,7 +341,7 @@ pub fn single_extended(id: &[u8], rtr: &[u8]) -> Compiled
         e: 0,
     };
     match judge_lengths(row, id.len(), rtr.len(), 0, 0, 0) {
-        Compiling::Refused(refusal) => refused(refusal),
+        Compiling::Refused(refusal) => filter_registers::refused(refusal),
         Compiling::Made => {
             let characters = join(id, rtr, b"", b"", b"");
             compile(row.start, &characters)
@@ -425,7 +374,7 @@ pub fn dual_standard(
         second_id.len(),
         second_rtr.len(),
     ) {
-        Compiling::Refused(refusal) => refused(refusal),
+        Compiling::Refused(refusal) => filter_registers::refused(refusal),
         Compiling::Made => {
             let characters = join(first_id, first_rtr, first_payload, second_id, second_rtr);
             compile(row.start, &characters)
@@ -445,7 +394,7 @@ pub fn dual_extended(first: &[u8], second: &[u8]) -> Compiled
         e: 0,
     };
     match judge_lengths(row, first.len(), second.len(), 0, 0, 0) {
-        Compiling::Refused(refusal) => refused(refusal),
+        Compiling::Refused(refusal) => filter_registers::refused(refusal),
         Compiling::Made => {
             let characters = join(first, second, b"", b"", b"");
             compile(row.start, &characters)

@@ -8,8 +8,8 @@ use lib.ListN.{replicate}
 use Rattle.laws.specs.Said.{Said, refuses, gives}
 use Rattle.laws.proofs.Bools.{both-left, both-right}
 use Rattle.identifiers.specs.Limits.{limitOf}
+use Rattle.filter_registers.specs.Registers.{registersOf}
 use Rattle.filter_patterns.specs.Table.{Filter, fieldsOf}
-use Rattle.filter_patterns.specs.Registers.{registersOf}
 use Rattle.filters.specs.Words.{laidOf}
 use Rattle.filters.specs.Answers.{bothWithin, codeMaskOf}
 

@@ -15,17 +15,18 @@ use native.Mathlib.Omega.{arith}
 use Rattle.laws.specs.Bits.{bitAt}
 use Rattle.laws.specs.Said.{gives}
 use Rattle.laws.proofs.Bits.{bit-lt, bit-zero, bit-xor, bit-here, bit-there, bit-ext}
+use Rattle.filter_registers.specs.Registers.{registersOf, codeIn}
+use Rattle.filter_registers.specs.Meaning.{Agree}
+use Rattle.filter_registers.proofs.Registers.{code-back, registers-equal, accepts-is}
 use Rattle.filter_patterns.specs.Table.{Filter, fieldsOf, rowOf, joined}
 use Rattle.filter_patterns.specs.Words.{one, care, codeOf, maskOf}
 use Rattle.filters.specs.Words.{written, writtenIn, laidOf}
-use Rattle.filter_patterns.specs.Registers.{registersOf, codeIn}
 use Rattle.filter_patterns.specs.Answers.{compileOf}
 use Rattle.filters.specs.Answers.{codeMaskOf}
-use Rattle.filter_patterns.specs.Meaning.{distinct, Agree}
+use Rattle.filter_patterns.specs.Meaning.{distinct}
 use Rattle.filters.specs.Meaning.{Same, SameMeaning, Tidy}
 use Rattle.filter_patterns.proofs.Table.{row-distinct, row-within}
 use Rattle.filter_patterns.proofs.Characters.{one-lt, care-lt, one-not, care-is}
-use Rattle.filter_patterns.proofs.Registers.{code-back, registers-equal, accepts-is}
 use Rattle.filters.proofs.Laid.{written-length}
 use Rattle.filter_patterns.proofs.Agree.{at, off, where-is, word-lt, code-at}
 use Rattle.filter_patterns.proofs.Means.{whole, code-small, mask-small, registers-made}

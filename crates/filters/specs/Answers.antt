@@ -6,8 +6,8 @@ use mathlib.Core.List.{List}
 use lib.Dec.{leb}
 use Rattle.laws.specs.Said.{Said, refuses, gives}
 use Rattle.identifiers.specs.Limits.{limitOf}
+use Rattle.filter_registers.specs.Registers.{registersOf}
 use Rattle.filter_patterns.specs.Table.{Filter, fieldsOf}
-use Rattle.filter_patterns.specs.Registers.{registersOf}
 use Rattle.filter_patterns.specs.Answers.{answered}
 use Rattle.filters.specs.Words.{laidOf}
 

@@ -5,7 +5,7 @@ use mathlib.Core.Path.{_≡_}
 use mathlib.Core.Logic.{_↔_}
 use mathlib.Core.List.{List}
 use Rattle.laws.specs.Bits.{bitAt}
-use Rattle.filter_patterns.specs.Meaning.{Agree, Accepts}
+use Rattle.filter_registers.specs.Meaning.{Agree, Accepts}
 
 -- two pairs of code and mask mean the same: they agree with the same words
 abbrev pub Same : ℕ → ℕ → ℕ → ℕ → Type 0

@@ -4,11 +4,12 @@ ghost use mathlib.Core.Bool.{true, false, _&&_};
 ghost use mathlib.Core.List.{_∷_, []};
 ghost use Prim.Native.Nat.{_<_};
 ghost use Rattle.laws.specs.Row.{bit};
+ghost use Rattle.filter_registers.specs.Answers.{compiledSaid};
 ghost use Rattle.filter_patterns.specs.Table.{singleStandard, singleExtended, dualStandard, dualExtended, fieldsOf};
-ghost use Rattle.filter_patterns.specs.Answers.{compileOf, compiledSaid};
+ghost use Rattle.filter_patterns.specs.Answers.{compileOf};
 ghost use Rattle.filters.specs.Words.{laidOf};
 ghost use Rattle.filters.specs.Answers.{bothWithin, codeMaskOf};
-use filter_patterns::Compiled;
+use filter_registers::Compiled;
 use identifiers::ExtendedId;
 use identifiers::Id;
 use identifiers::StandardId;
@@ -106,9 +107,9 @@ impl SingleStandardFilter {
             («id_code» .0 ∷ bit «rtr_code» ∷ «first_code» ∷ «second_code» ∷ []) («id_mask» .0 ∷ bit «rtr_mask» ∷ «first_mask» ∷ «second_mask» ∷ []) ⌝ }
     {
         if !standard_within(id_code, id_mask) {
-            return filter_patterns::refused(Refusal::IdentifierAboveLimit(0));
+            return filter_registers::refused(Refusal::IdentifierAboveLimit(0));
         }
-        filter_patterns::made(
+        filter_registers::made(
             single_standard_word(id_code, rtr_code, first_code, second_code),
             single_standard_word(id_mask, rtr_mask, first_mask, second_mask),
         )
@@ -132,9 +133,9 @@ impl SingleExtendedFilter {
             («id_code» .0 ∷ bit «rtr_code» ∷ []) («id_mask» .0 ∷ bit «rtr_mask» ∷ []) ⌝ }
     {
         if !extended_within(id_code, id_mask) {
-            return filter_patterns::refused(Refusal::IdentifierAboveLimit(0));
+            return filter_registers::refused(Refusal::IdentifierAboveLimit(0));
         }
-        filter_patterns::made(
+        filter_registers::made(
             single_extended_word(id_code, rtr_code),
             single_extended_word(id_mask, rtr_mask),
         )
@@ -171,12 +172,12 @@ impl DualStandardFilter {
             («first_id_mask» .0 ∷ bit «first_rtr_mask» ∷ «first_payload_mask» ∷ «second_id_mask» .0 ∷ bit «second_rtr_mask» ∷ []) ⌝ }
     {
         if !standard_within(first_id_code, first_id_mask) {
-            return filter_patterns::refused(Refusal::IdentifierAboveLimit(0));
+            return filter_registers::refused(Refusal::IdentifierAboveLimit(0));
         }
         if !standard_within(second_id_code, second_id_mask) {
-            return filter_patterns::refused(Refusal::IdentifierAboveLimit(0));
+            return filter_registers::refused(Refusal::IdentifierAboveLimit(0));
         }
-        filter_patterns::made(
+        filter_registers::made(
             dual_standard_word(
                 first_id_code,
                 first_rtr_code,
@@ -210,7 +211,7 @@ impl DualExtendedFilter {
     ) -> Compiled
         ensures { λ r. ⌜ compiledSaid r ≡ codeMaskOf dualExtended true («first_code» ∷ «second_code» ∷ []) («first_mask» ∷ «second_mask» ∷ []) ⌝ }
     {
-        filter_patterns::made(
+        filter_registers::made(
             dual_extended_word(first_code, second_code),
             dual_extended_word(first_mask, second_mask),
         )

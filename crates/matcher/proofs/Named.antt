@@ -15,7 +15,7 @@ use Rattle.laws.specs.Bits.{bitAt}
 use Rattle.laws.proofs.Bits.{bit-lt, bit-zero, bit-and, bit-xor, bit-not, bit-ext, differ-zero, differ-same}
 use Rattle.laws.proofs.Bools.{same-test, and-yes, both-true}
 use Rattle.filter_patterns.specs.Words.{one}
-use Rattle.filter_patterns.specs.Registers.{codeIn, maskIn}
+use Rattle.filter_registers.specs.Registers.{codeIn, maskIn}
 use Rattle.filter_patterns.specs.Meaning.{distinct, within, characterIn, charactersIn}
 use Rattle.filter_patterns.proofs.Characters.{one-is, one-lt}
 use Rattle.filter_patterns.proofs.Table.{within-at}

@@ -16,7 +16,7 @@ use Rattle.laws.proofs.Bits.{bit-lt}
 use Rattle.filter_patterns.specs.Table.{Filter, singleStandard, singleExtended, dualStandard, dualExtended, fieldsOf, rowOf, joined, lengths}
 use Rattle.filter_patterns.specs.Words.{one}
 use Rattle.filters.specs.Words.{written, writtenEach, writtenIn, laidOf}
-use Rattle.filter_patterns.specs.Registers.{codeIn, maskIn}
+use Rattle.filter_registers.specs.Registers.{codeIn, maskIn}
 use Rattle.filter_patterns.specs.Meaning.{distinct, within, characterIn, charactersIn, patternsIn}
 use Rattle.filter_patterns.proofs.Characters.{one-lt}
 use Rattle.filters.proofs.Laid.{one-digit, written-length}

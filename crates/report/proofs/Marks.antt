@@ -14,7 +14,7 @@ use Rattle.laws.proofs.Laid.{set-then, laid-then, laid-none}
 use Rattle.laws.specs.Row.{bytes, pack}
 use Rattle.laws.specs.Tabulate.{part}
 use Rattle.laws.proofs.Tabulate.{tabulate-same}
-use Rattle.filter_patterns.specs.Registers.{codeIn, maskIn}
+use Rattle.filter_registers.specs.Registers.{codeIn, maskIn}
 use Rattle.frame_file.specs.Format.{filterBytes, frameBytes}
 use Rattle.matcher.specs.declared.Shown.{Shown}
 use Rattle.matcher.specs.Words.{showOf, compareOf}

@@ -7,7 +7,7 @@ ghost use lib.ListN.{length, getD};
 ghost use Rattle.laws.specs.Row.{bytes, pack};
 ghost use Rattle.laws.specs.Tabulate.{part};
 ghost use Rattle.laws.specs.Laid.{laidFirst, laid, laying, written};
-ghost use Rattle.filter_patterns.specs.Registers.{codeIn, maskIn};
+ghost use Rattle.filter_registers.specs.Registers.{codeIn, maskIn};
 ghost use Rattle.frame_file.specs.Format.{filterLimit, frameLimit, filterBytes, frameBytes};
 ghost use Rattle.matcher.specs.Words.{showOf, compareOf, matchingSaid};
 ghost use Rattle.report.specs.Text.{verdict, marksFrom, anyFrom, lineOf, linesFrom, countFrom, goodText, badText, textOf};

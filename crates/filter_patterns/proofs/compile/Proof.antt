@@ -5,7 +5,7 @@ use native.Mathlib.Omega.{arith}
 use borrow.Author.Tests.{not-true, not-false}
 use borrow.Author.Needs.{needs}
 use Rattle.laws.specs.Said.{refuses}
-use Rattle.filter_patterns.specs.Registers.{registersOf}
+use Rattle.filter_registers.specs.Registers.{registersOf}
 use Rattle.filter_patterns.proofs.Joined.{bad-said, good-said, first-is}
 use Rattle.filter_patterns.proofs.Answers.{answered-refused, answered-made}
 use Rattle.filter_patterns.proofs.compile.Statement.{statement}

@@ -2,8 +2,9 @@
 use mathlib.Core.Path.{sym, ap, _∙_}
 use native.Mathlib.Omega.{arith}
 use borrow.Author.Needs.{needs}
+use Rattle.filter_registers.specs.Answers.{compilingSaid}
 use Rattle.filter_patterns.specs.Table.{fieldsOf, places}
-use Rattle.filter_patterns.specs.Answers.{compilingSaid, compileOf}
+use Rattle.filter_patterns.specs.Answers.{compileOf}
 use Rattle.filter_patterns.proofs.Answers.{length-refused, fits, all-made}
 use Rattle.filter_patterns.proofs.dual_standard.Statement.{statement}
 use Rattle.filter_patterns.proofs.dual_standard.Tie as tie

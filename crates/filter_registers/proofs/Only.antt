@@ -5,10 +5,10 @@ use mathlib.Core.List.{List}
 use Rattle.laws.specs.Said.{Said, refuses, gives}
 use Rattle.laws.proofs.Only.{only}
 use Rattle.refusals.proofs.Only.{refusalAt, refusal-at}
-use Rattle.filter_patterns.specs.Answers.{compilingSaid, compiledSaid}
-use Rattle.filter_patterns.specs.declared.Compiling.{Compiling}
-use Rattle.filter_patterns.specs.declared.Compiling.the-variants.{Made, Refused}
-use Rattle.filter_patterns.specs.declared.Compiled.{Compiled}
+use Rattle.filter_registers.specs.Answers.{compilingSaid, compiledSaid}
+use Rattle.filter_registers.specs.declared.Compiling.{Compiling}
+use Rattle.filter_registers.specs.declared.Compiling.the-variants.{Made, Refused}
+use Rattle.filter_registers.specs.declared.Compiled.{Compiled}
 
 compilingBack : Said ℕ → Compiling
 compilingBack (gives n) = Made

@@ -1,7 +1,7 @@
--- `filter_patterns::made` meets its contract: the registers of the two words. Assumes nothing.
+-- `filter_registers::made` meets its contract: the registers of the two words. Assumes nothing.
 use borrow.Author.Needs.{needs}
-use Rattle.filter_patterns.proofs.made.Statement.{statement}
-use Rattle.filter_patterns.proofs.made.Tie as tie
+use Rattle.filter_registers.proofs.made.Statement.{statement}
+use Rattle.filter_registers.proofs.made.Tie as tie
 
 to-registers-requires : tie.Need-to-registers-requires
 to-registers-requires c κs = search needs

@@ -9,8 +9,8 @@ use Rattle.laws.specs.Row.{bytes}
 use Rattle.laws.specs.Bits.{bitAt}
 use Rattle.laws.proofs.Row.{pack-unpack, four-bytes}
 use Rattle.laws.proofs.Bits.{bit-lt, bit-not, bit-past}
-use Rattle.filter_patterns.specs.Registers.{registersOf, codeIn, maskIn}
-use Rattle.filter_patterns.specs.Meaning.{Agree, Accepts}
+use Rattle.filter_registers.specs.Registers.{registersOf, codeIn, maskIn}
+use Rattle.filter_registers.specs.Meaning.{Agree, Accepts}
 
 -- the eight bytes of one word that has both
 pub eight-bytes : (code mask w a b c d e f g h : ℕ) → code < 2 ^ 32 → mask < 2 ^ 32 → w ≡ code * 2 ^ 32 + 4294967295 - mask

@@ -1,10 +1,10 @@
--- `filter_patterns::to_registers` meets its contract: the bytes of the word that has the code above and the complement of the mask below. Assumes nothing.
+-- `filter_registers::to_registers` meets its contract: the bytes of the word that has the code above and the complement of the mask below. Assumes nothing.
 use mathlib.Core.Path.{refl}
 use native.Mathlib.Omega.{arith}
 use borrow.Author.Needs.{needs}
-use Rattle.filter_patterns.proofs.Registers.{eight-bytes}
-use Rattle.filter_patterns.proofs.to_registers.Statement.{statement}
-use Rattle.filter_patterns.proofs.to_registers.Tie as tie
+use Rattle.filter_registers.proofs.Registers.{eight-bytes}
+use Rattle.filter_registers.proofs.to_registers.Statement.{statement}
+use Rattle.filter_registers.proofs.to_registers.Tie as tie
 
 mul-high : tie.Need-mul-high
 mul-high c = search needs
