@@ -10,7 +10,8 @@ use borrow.Author.Tests.{ltb-true, ltb-false, leb-false, lt-leb, le-leb}
 use Rattle.laws.specs.Said.{refuses, gives}
 use Rattle.laws.specs.Tabulate.{tabulate}
 use Rattle.laws.proofs.Tabulate.{tabulate-snoc, tabulate-none, length-tabulate}
-use Rattle.queue.specs.declared.Record.{Record}
+use Rattle.records.specs.declared.Record.{Record}
+use Rattle.records.specs.Blank.{blank}
 use Rattle.queue.specs.Ring as Q
 use Rattle.queue.specs.Ring.{queueLimit}
 use Rattle.queue.specs.View.{recordAt, view}
@@ -112,7 +113,7 @@ module _ (g : ReceiveBox) (k : Good g) where
       record { event = rw (c, v); state = rw (c, v) }
   took-by false e =
       let q = g .queue in
-      let c : takeOf g ≡ ((gives false, Q.blank), g) = simp (good-ok g k, queue-ok queueLimit q (k .queue), e) in
+      let c : takeOf g ≡ ((gives false, blank), g) = simp (good-ok g k, queue-ok queueLimit q (k .queue), e) in
       let v : view queueLimit q ≡ [] = tabulate-none (q .count) (recordAt queueLimit q) (ltb-false 0 (q .count) e) in
       record { event = rw (c, v); state = rw (c, v) }
 

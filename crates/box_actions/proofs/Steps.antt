@@ -9,7 +9,7 @@ use native.Mathlib.Omega.{arith}
 use borrow.Author.Tests.{ltb-true, eqb-true, eqb-false}
 use Rattle.laws.specs.Said.{gives}
 use Rattle.laws.proofs.Tabulate.{tabulate-none, length-tabulate}
-use Rattle.queue.specs.declared.Record.{Record}
+use Rattle.records.specs.declared.Record.{Record}
 use Rattle.queue.specs.Ring.{queueLimit, pushed, offerOf}
 use Rattle.queue.specs.View.{recordAt, view}
 use Rattle.queue.proofs.Ring.{queue-ok}

@@ -3,7 +3,7 @@
 use Prim.Native.Nat.{ℕ}
 use mathlib.Core.Bool.{not}
 use mathlib.Core.List.{List}
-use Rattle.queue.specs.declared.Record.{Record}
+use Rattle.records.specs.declared.Record.{Record}
 use Rattle.queue.specs.Ring.{queueLimit}
 use Rattle.queue.specs.View.{view}
 use Rattle.fifo.specs.declared.Entry.{Entry}

@@ -5,8 +5,8 @@ use mathlib.Core.Bool.{not}
 use mathlib.Core.List.{List, [], _∷_, _++_, map}
 use lib.ListN.{length, replicate}
 use Rattle.laws.specs.Row.{bit}
-use Rattle.queue.specs.declared.RecordKind.the-variants.{Frame}
-use Rattle.queue.specs.declared.Record.{Record}
+use Rattle.records.specs.declared.RecordKind.the-variants.{Frame}
+use Rattle.records.specs.declared.Record.{Record}
 use Rattle.fifo.specs.declared.Entry.{Entry}
 use Rattle.fifo.specs.Ring.{entriesOf}
 use Rattle.words.specs.declared.Words.{Words}

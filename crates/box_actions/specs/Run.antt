@@ -7,7 +7,7 @@ use mathlib.Core.List.{List, [], _∷_}
 use mathlib.Core.Option.{Option, none, some}
 use lib.Dec.{eqb}
 use Rattle.laws.specs.Said.{Said, refuses, gives}
-use Rattle.queue.specs.declared.Record.{Record}
+use Rattle.records.specs.declared.Record.{Record}
 use Rattle.queue.specs.Ring.{TakeSaid}
 use Rattle.fifo.specs.Ring.{Outcome}
 use Rattle.words.specs.declared.Words.{Words}

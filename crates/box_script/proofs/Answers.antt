@@ -13,7 +13,7 @@ use Rattle.laws.specs.Tabulate.{part}
 use Rattle.refusals.specs.Table.{numberOf}
 use Rattle.refusals.specs.declared.Refusal.{Refusal}
 use Rattle.refusals.specs.declared.Refusal.the-variants.{IdentifierAboveLimit, InvalidDataLength, NonCompliantDlc, PatternLength, PatternByte, OutputTooShort, FilterKind, DrainRuns, NoDrainRuns, BrokenState, FileEnds, CountAboveLimit, BytesAfterEnd, WrongLength, EmptyList}
-use Rattle.queue.specs.declared.Record.{Record}
+use Rattle.records.specs.declared.Record.{Record}
 use Rattle.queue.specs.declared.Queue.{Queue}
 use Rattle.queue.specs.Ring as Q
 use Rattle.fifo.specs.declared.Entry.{Entry}

@@ -6,8 +6,8 @@ use mathlib.Core.List.{List, [], _∷_, _++_}
 use lib.ListN.{replicate}
 use Rattle.laws.specs.Said.{refuses, gives}
 use Rattle.frames.specs.Buffer.{dataLengthOf}
+use Rattle.records.specs.Same.{sameBytes}
 use Rattle.queue.specs.Ring.{queueOk, offerOf, takeOf as queueTakeOf}
-use Rattle.queue.specs.Same.{sameBytes}
 use Rattle.fifo.specs.Ring.{weightOf, sumTo, fifoOk, arriveOf as fifoArriveOf}
 use Rattle.words.specs.Due.{receiveDue, noticeDue, errorDue, finishOf}
 use Rattle.receive_box.specs.Rules.{frontReady, copyReady, releaseReady, boxOk}

@@ -8,7 +8,7 @@ use lib.Dec.{eqb}
 use lib.ListN.{replicate}
 use Rattle.laws.specs.Said.{Said, refuses, gives}
 use Rattle.laws.specs.Row.{bit, bytes, unpack}
-use Rattle.queue.specs.declared.Record.{Record}
+use Rattle.records.specs.declared.Record.{Record}
 use Rattle.fifo.specs.Ring.{Outcome, notRecorded, marked, stored}
 use Rattle.words.specs.declared.Finished.{Finished}
 use Rattle.receive_box.specs.declared.ReceiveBox.{ReceiveBox}

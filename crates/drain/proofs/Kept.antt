@@ -7,11 +7,11 @@ use lib.Dec.{ltb, eqb}
 use lib.ListN.{length, length-set}
 use native.Mathlib.Omega.{arith}
 use borrow.Author.Tests.{ltb-true, eqb-false}
-use Rattle.queue.specs.declared.Record.{Record}
+use Rattle.records.specs.declared.Record.{Record}
+use Rattle.records.proofs.Same.{same-self}
 use Rattle.queue.specs.Ring as Q
 use Rattle.queue.specs.Ring.{queueLimit}
 use Rattle.queue.proofs.Ring.{queue-ok}
-use Rattle.queue.proofs.Same.{same-self}
 use Rattle.fifo.specs.Ring as F
 use Rattle.fifo.specs.Ring.{entryLimit, frontOf, sumTo}
 use Rattle.fifo.proofs.Ring.{arrive-enters, release-valid}

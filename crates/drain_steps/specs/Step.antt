@@ -5,9 +5,10 @@ use lib.Dec.{eqb}
 use Rattle.laws.specs.Said.{Said, refuses, gives}
 use Rattle.refusals.specs.Table.{refusalSaid}
 use Rattle.refusals.specs.declared.Refusal.{Refusal}
-use Rattle.queue.specs.declared.Record.{Record}
+use Rattle.records.specs.declared.Record.{Record}
+use Rattle.records.specs.Blank.{blank}
 use Rattle.queue.specs.declared.Queue.{Queue}
-use Rattle.queue.specs.Ring.{queueLimit, blank, offerOf}
+use Rattle.queue.specs.Ring.{queueLimit, offerOf}
 use Rattle.fifo.specs.Ring.{frontOf, released}
 use Rattle.words.specs.declared.Words.{Words}
 use Rattle.words.specs.declared.Finished.{Finished}

@@ -7,8 +7,9 @@ use lib.Dec.{ltb, leb}
 use lib.ListN.{getD, set, replicate}
 use Rattle.laws.specs.Said.{Said, refuses, gives}
 use Rattle.refusals.specs.Table.{refusalSaid}
-use Rattle.queue.specs.declared.RecordKind.the-variants.{Frame}
-use Rattle.queue.specs.declared.Record.{Record}
+use Rattle.records.specs.declared.RecordKind.the-variants.{Frame}
+use Rattle.records.specs.declared.Record.{Record}
+use Rattle.records.specs.Blank.{blank}
 use Rattle.queue.specs.declared.Queue.{Queue}
 use Rattle.queue.specs.declared.Offering.{Offering}
 use Rattle.queue.specs.declared.Offering.the-variants as offering
@@ -21,10 +22,6 @@ use Rattle.queue.specs.declared.Taken.{Taken}
 -- the queue has 32 places
 abbrev pub queueLimit : ℕ
 queueLimit = 32
-
--- what stands where no record is told
-abbrev pub blank : Record
-blank = record { kind = Frame; bytes = replicate 13 0 }
 
 -- what stands past the end of the places
 abbrev pub nowhere : Record

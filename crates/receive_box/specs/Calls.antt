@@ -5,7 +5,8 @@ use mathlib.Core.Bool.{cond}
 use mathlib.Core.List.{List}
 use Rattle.laws.specs.Said.{Said, refuses, gives}
 use Rattle.refusals.specs.Table.{refusalSaid}
-use Rattle.queue.specs.declared.Record.{Record}
+use Rattle.records.specs.declared.Record.{Record}
+use Rattle.records.specs.Blank.{blank}
 use Rattle.queue.specs.declared.Queue.{Queue}
 use Rattle.queue.specs.Ring as Q
 use Rattle.fifo.specs.declared.Fifo.{Fifo}
@@ -30,7 +31,7 @@ freshBox =
       fifo = F.emptyFifo;
       queue = Q.emptyQueue Q.queueLimit;
       phase = phase.Idle;
-      held = Q.blank;
+      held = blank;
       words = record { interrupt = 0; enable = 0; status = 0 };
     }
 
@@ -53,7 +54,7 @@ unfoldable pub takeOf : ReceiveBox → Q.TakeSaid × ReceiveBox
 takeOf g =
     cond (boxOk g)
     (Q.takeOf Q.queueLimit (g .queue) .0, withOf g (g .fifo) (Q.takeOf Q.queueLimit (g .queue) .1) (g .phase) (g .held))
-    ((refuses 10 0, Q.blank), g)
+    ((refuses 10 0, blank), g)
 
 abbrev pub takenSaid : Taken → Q.TakeSaid × ReceiveBox
 takenSaid r = (Q.takeSaid (r .answer), r .state)

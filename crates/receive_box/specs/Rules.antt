@@ -3,11 +3,11 @@
 use mathlib.Core.Bool.{Bool, true, false, cond, not, _&&_}
 use lib.Dec.{ltb}
 use lib.ListN.{replicate}
-use Rattle.queue.specs.declared.RecordError.the-variants.{Overrun, BusOff}
-use Rattle.queue.specs.declared.RecordKind.the-variants.{Frame, Error}
-use Rattle.queue.specs.declared.Record.{Record}
+use Rattle.records.specs.declared.RecordError.the-variants.{Overrun, BusOff}
+use Rattle.records.specs.declared.RecordKind.the-variants.{Frame, Error}
+use Rattle.records.specs.declared.Record.{Record}
+use Rattle.records.specs.Same.{sameRecord}
 use Rattle.queue.specs.Ring.{queueLimit, queueOk}
-use Rattle.queue.specs.Same.{sameRecord}
 use Rattle.fifo.specs.declared.Entry.{Entry}
 use Rattle.fifo.specs.Ring.{frontOf, fifoOk}
 use Rattle.words.specs.Due.{receiveDue, noticeDue}

@@ -6,11 +6,11 @@ use fifo::Arrival;
 use fifo::Entry;
 use fifo::Fifo;
 use queue::Queue;
-use queue::Record;
-use queue::RecordError;
-use queue::RecordKind;
 use queue::TakeAnswer;
 use queue::Taking;
+use records::Record;
+use records::RecordError;
+use records::RecordKind;
 use refusals::Refusal;
 use words::Words;
 

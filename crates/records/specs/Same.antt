@@ -4,11 +4,11 @@ use Prim.Native.Nat.{ℕ}
 use mathlib.Core.Bool.{Bool, true, false, _&&_}
 use mathlib.Core.List.{List, [], _∷_}
 use lib.Dec.{eqb}
-use Rattle.queue.specs.declared.RecordError.{RecordError}
-use Rattle.queue.specs.declared.RecordError.the-variants.{Overrun, BusOff}
-use Rattle.queue.specs.declared.RecordKind.{RecordKind}
-use Rattle.queue.specs.declared.RecordKind.the-variants.{Frame, Error}
-use Rattle.queue.specs.declared.Record.{Record}
+use Rattle.records.specs.declared.RecordError.{RecordError}
+use Rattle.records.specs.declared.RecordError.the-variants.{Overrun, BusOff}
+use Rattle.records.specs.declared.RecordKind.{RecordKind}
+use Rattle.records.specs.declared.RecordKind.the-variants.{Frame, Error}
+use Rattle.records.specs.declared.Record.{Record}
 
 unfoldable pub sameBytes : List ℕ → List ℕ → Bool
 sameBytes [] [] = true

@@ -10,11 +10,11 @@ use lib.Seq.{drop-cons}
 use native.Mathlib.Numerals.{add-one}
 use borrow.Author.Tests.{eqb-true, eq-eqb}
 use Rattle.laws.proofs.Bools.{both-true}
-use Rattle.queue.specs.declared.RecordError.the-variants.{Overrun, BusOff}
-use Rattle.queue.specs.declared.RecordKind.{RecordKind}
-use Rattle.queue.specs.declared.RecordKind.the-variants.{Frame, Error}
-use Rattle.queue.specs.declared.Record.{Record}
-use Rattle.queue.specs.Same.{sameBytes, sameKind, sameRecord}
+use Rattle.records.specs.declared.RecordError.the-variants.{Overrun, BusOff}
+use Rattle.records.specs.declared.RecordKind.{RecordKind}
+use Rattle.records.specs.declared.RecordKind.the-variants.{Frame, Error}
+use Rattle.records.specs.declared.Record.{Record}
+use Rattle.records.specs.Same.{sameBytes, sameKind, sameRecord}
 
 pub same-step : (a b : List ℕ) (i : ℕ) → i < length a → i < length b →
     sameBytes (drop i a) (drop i b) ≡ (eqb (getD a i 0) (getD b i 0) && sameBytes (drop (i + 1) a) (drop (i + 1) b))
