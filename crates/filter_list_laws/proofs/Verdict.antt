@@ -16,7 +16,8 @@ use Rattle.filter_patterns.specs.Meaning.{allCharacters}
 use Rattle.filter_patterns.proofs.Joined.{good-said}
 use Rattle.filters.proofs.Laid.{written-length}
 use Rattle.frames.specs.Buffer.{extendedOf, idOf}
-use Rattle.matcher.specs.Match.{numbersIn, fits, allFit, fitsEither, fitsFilter, acceptsOf}
+use Rattle.shown_words.specs.Fields.{numbersIn}
+use Rattle.matcher.specs.Match.{fits, allFit, fitsEither, fitsFilter, acceptsOf}
 use Rattle.matcher.specs.Words.{matchOf}
 use Rattle.matcher.proofs.EndToEnd.{end-to-end}
 use Rattle.filter_list.specs.Pattern.{widthOf, singleOf, withIdentifier}

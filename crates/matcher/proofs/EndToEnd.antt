@@ -12,7 +12,8 @@ use Rattle.filter_patterns.specs.Meaning.{patternsIn}
 use Rattle.filter_patterns.specs.Answers.{compileOf}
 use Rattle.filter_patterns.proofs.Back.{patterns-back}
 use Rattle.frames.specs.Buffer.{extendedOf, dataLengthOf, dataOf}
-use Rattle.matcher.specs.Match.{rowFor, numbersIn, allFit, fitsEither, fitsFilter, acceptsOf}
+use Rattle.shown_words.specs.Fields.{rowFor, numbersIn}
+use Rattle.matcher.specs.Match.{allFit, fitsEither, fitsFilter, acceptsOf}
 
 -- for each of the four compilers and every frame of its format: accepted exactly if what the frame shows fits the characters
 pub end-to-end : (dual format : Bool) (patterns : List (List ℕ)) (frame : List ℕ) → compileOf (rowFor dual format) patterns .0 ≡ gives 8

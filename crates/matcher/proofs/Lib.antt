@@ -2,4 +2,3 @@ pub mod Named
 pub mod Positions
 pub mod EndToEnd
 pub mod Only
-pub mod Rows

@@ -9,7 +9,8 @@ use Rattle.filters.specs.Answers.{codeMaskOf}
 use Rattle.frames.specs.Buffer.{dataLengthOf, dataOf}
 use Rattle.frame_building.specs.Buffer.{bufferOf}
 use Rattle.frame_building.specs.Building.{judgeOf, buildOf}
-use Rattle.matcher.specs.Match.{numbersIn, allFit, fitsEither, acceptsOf}
+use Rattle.shown_words.specs.Fields.{numbersIn}
+use Rattle.matcher.specs.Match.{allFit, fitsEither, acceptsOf}
 use Rattle.matcher.specs.Words.{matchOf}
 use Rattle.box_actions.proofs.P12.{queued-before, wholes-before, queued-after, left-after, one-lost}
 use Rattle.outline_numbers.specs.Table.{Row, Answered, valueRows, boxRows, rows}

@@ -7,7 +7,8 @@ use Rattle.filter_patterns.specs.Table.{fieldsOf}
 use Rattle.frames.specs.Buffer.{dataLengthOf, dataOf}
 use Rattle.text.specs.Decimal.{digitsOf, decimal}
 use Rattle.frame_file.specs.Reader.{framesFrom, framesAt, filtersFrom, readOf}
-use Rattle.matcher.specs.Match.{numbersIn, allFit, fitsEither, acceptsOf}
+use Rattle.shown_words.specs.Fields.{numbersIn}
+use Rattle.matcher.specs.Match.{allFit, fitsEither, acceptsOf}
 use Rattle.matcher.specs.Words.{matchOf}
 use Rattle.report.specs.Text.{acceptsAt, marksFrom, anyFrom, marksOf, lineOf, linesFrom, countFrom, goodText, badText, acceptedText, textOf}
 

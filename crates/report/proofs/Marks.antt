@@ -16,8 +16,9 @@ use Rattle.laws.specs.Tabulate.{part}
 use Rattle.laws.proofs.Tabulate.{tabulate-same}
 use Rattle.filter_registers.specs.Registers.{codeIn, maskIn}
 use Rattle.frame_file.specs.Format.{filterBytes, frameBytes}
-use Rattle.matcher.specs.declared.Shown.{Shown}
-use Rattle.matcher.specs.Words.{showOf, compareOf}
+use Rattle.shown_words.specs.declared.Shown.{Shown}
+use Rattle.shown_words.specs.Words.{showOf}
+use Rattle.matcher.specs.Words.{compareOf}
 use Rattle.matcher.proofs.Positions.{compare-is}
 use Rattle.text.specs.Decimal.{decimal}
 use Rattle.report.specs.Text.{verdict, acceptsAt, marksFrom, anyFrom, marksOf, lineOf}

@@ -9,7 +9,8 @@ ghost use Rattle.laws.specs.Tabulate.{part};
 ghost use Rattle.laws.specs.Laid.{laidFirst, laid, laying, written};
 ghost use Rattle.filter_registers.specs.Registers.{codeIn, maskIn};
 ghost use Rattle.frame_file.specs.Format.{filterLimit, frameLimit, filterBytes, frameBytes};
-ghost use Rattle.matcher.specs.Words.{showOf, compareOf, matchingSaid};
+ghost use Rattle.shown_words.specs.Words.{showOf};
+ghost use Rattle.matcher.specs.Words.{compareOf, matchingSaid};
 ghost use Rattle.report.specs.Text.{verdict, marksFrom, anyFrom, lineOf, linesFrom, countFrom, goodText, badText, textOf};
 ghost use Rattle.report.specs.Length.{lineLength, linesLength, widthOf};
 ghost use Rattle.report.specs.Answer.{reportingSaid};
@@ -17,8 +18,8 @@ use frame_file::FILTER_BYTES;
 use frame_file::FRAME_BYTES;
 use frame_file::Reading;
 use matcher::Matching;
-use matcher::Shown;
 use refusals::Refusal;
+use shown_words::Shown;
 
 pub enum Reporting {
     Reported(usize),
@@ -58,7 +59,7 @@ fn shown_at(file: &[u8], at: usize) -> Shown
     ensures { λ r. ⌜ r ≡ showOf (part (now (file .entry)) at frameBytes) ⌝ }
 {
     let frame = frame_at(file, at);
-    matcher::show(&frame)
+    shown_words::show(&frame)
 }
 
 fn is_accepted(matching: Matching) -> bool

@@ -1,7 +1,7 @@
 -- `report::shown_at` meets its contract: what is shown is what the bytes of the frame show. Assumes nothing.
 use mathlib.Core.Path.{ap, _∙_}
 use borrow.Author.Needs.{needs}
-use Rattle.matcher.specs.Words.{showOf}
+use Rattle.shown_words.specs.Words.{showOf}
 use Rattle.report.proofs.shown_at.Statement.{statement}
 use Rattle.report.proofs.shown_at.Tie as tie
 

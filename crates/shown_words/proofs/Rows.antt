@@ -10,9 +10,9 @@ use Rattle.filter_patterns.specs.Table.{fieldsOf}
 use Rattle.filter_patterns.specs.Words.{one, wordFrom}
 use Rattle.filters.proofs.Laid.{laid-single-standard, laid-single-extended, laid-dual-standard, laid-dual-extended}
 use Rattle.frames.specs.Buffer.{extendedOf, remoteOf, idOf}
-use Rattle.matcher.specs.Match.{byteOf, numbersIn}
-use Rattle.matcher.specs.Words.{onesAt, showBy, showOf}
-use Rattle.matcher.specs.declared.Shown.{Shown}
+use Rattle.shown_words.specs.Fields.{byteOf, numbersIn}
+use Rattle.shown_words.specs.Words.{onesAt, showBy, showOf}
+use Rattle.shown_words.specs.declared.Shown.{Shown}
 
 -- what is shown, by its two words
 abbrev pub standardShown : ℕ → ℕ → Shown

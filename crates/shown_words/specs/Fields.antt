@@ -1,0 +1,41 @@
+-- What a frame shows, field by field of the row that its format picks in the one table.
+-- Source: ESP32-C3 manual, TWAI chapter, acceptance filter; the outline, "The matcher".
+use Prim.Native.Nat.{ℕ, _/_, _^_}
+use mathlib.Core.Bool.{Bool, true, false}
+use mathlib.Core.List.{List, [], _∷_}
+use lib.ListN.{getD}
+use Rattle.laws.specs.Row.{bit}
+use Rattle.filter_patterns.specs.Table.{Filter, singleStandard, singleExtended, dualStandard, dualExtended, fieldsOf}
+use Rattle.filters.specs.Words.{writtenEach}
+use Rattle.frames.specs.Buffer.{remoteOf, idOf, dataOf}
+
+-- the frame's own format picks the row
+abbrev pub rowFor : Bool → Bool → Filter
+rowFor false false = singleStandard
+rowFor false true = singleExtended
+rowFor true false = dualStandard
+rowFor true true = dualExtended
+
+-- a data byte that the frame lacks counts as zero
+abbrev pub byteOf : List ℕ → ℕ → ℕ
+byteOf frame i = getD (dataOf frame) i 0
+
+-- the numbers in each field of a row, by identifier, RTR and the first two data bytes; dual extended has the top 16 bits of the identifier
+unfoldable pub numbersIn : Filter → ℕ → ℕ → ℕ → ℕ → List ℕ
+numbersIn singleStandard id rtr byte next = id ∷ rtr ∷ byte ∷ next ∷ []
+numbersIn singleExtended id rtr byte next = id ∷ rtr ∷ []
+numbersIn dualStandard id rtr byte next = id ∷ rtr ∷ byte ∷ id ∷ rtr ∷ []
+numbersIn dualExtended id rtr byte next = id / 2 ^ 13 ∷ id / 2 ^ 13 ∷ []
+
+abbrev pub shownIn : Filter → List ℕ → List ℕ
+shownIn filter frame = numbersIn filter (idOf frame) (bit (remoteOf frame)) (byteOf frame 0) (byteOf frame 1)
+
+abbrev pub shownBits : Filter → List ℕ → List (List ℕ)
+shownBits filter frame = writtenEach (fieldsOf filter) (shownIn filter frame)
+
+-- the first half of a dual filter has this many fields, a single filter all of them
+abbrev pub firstFields : Filter → ℕ
+firstFields singleStandard = 4
+firstFields singleExtended = 2
+firstFields dualStandard = 3
+firstFields dualExtended = 1

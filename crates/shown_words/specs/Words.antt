@@ -1,0 +1,42 @@
+-- The two words that a frame shows, and the positions that it names in them.
+-- Source: the outline, "The matcher".
+use Prim.Native.Nat.{ℕ}
+use mathlib.Core.Bool.{Bool, true, false}
+use mathlib.Core.List.{List}
+use lib.ListN.{length, take, drop, replicate}
+use Rattle.laws.specs.Row.{bit}
+use Rattle.filter_patterns.specs.Table.{Filter, fieldsOf, joined}
+use Rattle.filter_patterns.specs.Words.{codeOf}
+use Rattle.filters.specs.Words.{laidOf}
+use Rattle.frames.specs.Buffer.{extendedOf, remoteOf, idOf}
+use Rattle.shown_words.specs.Fields.{rowFor, byteOf, numbersIn, firstFields}
+use Rattle.shown_words.specs.declared.Shown.{Shown}
+
+-- a word of ones at these positions
+unfoldable pub onesAt : List ℕ → ℕ
+onesAt ps = codeOf ps (replicate (length ps) 49)
+
+-- the word that has a row's numbers at its positions
+abbrev pub wordOf : Filter → ℕ → ℕ → ℕ → ℕ → ℕ
+wordOf filter id rtr byte next = laidOf (fieldsOf filter) (numbersIn filter id rtr byte next)
+
+-- the positions of the first half's fields (of all, for a single filter), and those of the others
+abbrev pub firstNamed : Filter → ℕ
+firstNamed filter = onesAt (joined (take (firstFields filter) (fieldsOf filter)))
+
+abbrev pub secondNamed : Filter → ℕ
+secondNamed filter = onesAt (joined (drop (firstFields filter) (fieldsOf filter)))
+
+-- by format, identifier, RTR and the first two data bytes
+unfoldable pub showBy : Bool → ℕ → ℕ → ℕ → ℕ → Shown
+showBy format id rtr byte next =
+    record {
+      single = wordOf (rowFor false format) id rtr byte next;
+      named = firstNamed (rowFor false format);
+      dual = wordOf (rowFor true format) id rtr byte next;
+      first = firstNamed (rowFor true format);
+      second = secondNamed (rowFor true format);
+    }
+
+unfoldable pub showOf : List ℕ → Shown
+showOf frame = showBy (extendedOf frame) (idOf frame) (bit (remoteOf frame)) (byteOf frame 0) (byteOf frame 1)
