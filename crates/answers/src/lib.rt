@@ -1,8 +1,5 @@
 // What an exported function answers, and bytes in and out of lent slices.
 ghost use mathlib.Core.Path.{_≡_};
-ghost use mathlib.Core.List.{_++_};
-ghost use Prim.Native.Nat.{_≤_};
-ghost use lib.ListN.{length, drop};
 ghost use Rattle.laws.specs.Said.{gives, refuses};
 ghost use Rattle.laws.specs.Row.{bit};
 ghost use Rattle.laws.specs.Laid.{laying, written};
@@ -46,28 +43,15 @@ pub fn wrong_length(argument: usize) -> Answer
     refused(Refusal::WrongLength(argument))
 }
 
-// Bytes into the front of a slice that has room for them.
-fn copy(bytes: &[u8], out: &mut [u8])
-    requires { ⌜ length (now bytes) ≤ length (now out) ⌝ }
-    ensures { λ _. ⌜ now (out .exit) ≡ now (bytes .entry) ++ drop (length (now (bytes .entry))) (now (out .entry)) ⌝ }
-{
-    let mut i = 0;
-    while i < bytes.len() {
-        out[i] = bytes[i];
-        i += 1;
-    }
-}
-
 // Bytes into the front of a lent output.
 pub fn lay(bytes: &[u8], out: &mut [u8]) -> Answer
     ensures { λ r. ⌜ r ≡ answerOf (laying (now (bytes .entry)) (now (out .entry))) ⌝ }
     ensures { λ _. ⌜ now (out .exit) ≡ written (laying (now (bytes .entry)) (now (out .entry))) (now (bytes .entry)) (now (out .entry)) ⌝ }
 {
     let needed = bytes.len();
-    if needed > out.len() {
+    if text::put_text(out, 0, bytes) < needed {
         return refused(Refusal::OutputTooShort(needed));
     }
-    copy(bytes, out);
     given(needed as u64)
 }
 

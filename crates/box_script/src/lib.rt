@@ -319,11 +319,7 @@ fn put(bytes: &[u8], out: &mut [u8], at: usize)
     requires { ⌜ at + length (now bytes) ≤ length (now out) ⌝ }
     ensures { λ _. ⌜ now (out .exit) ≡ laid at (now (bytes .entry)) (now (out .entry)) ⌝ }
 {
-    let mut i: usize = 0;
-    while i < bytes.len() {
-        out[at + i] = bytes[i];
-        i += 1;
-    }
+    text::put_text(out, at, bytes);
 }
 
 fn number_byte(refusal: Refusal) -> u8

@@ -58,7 +58,7 @@ pub fn put_decimal(out: &mut [u8], at: usize, n: usize) -> usize
     put_digits(out, at, n)
 }
 
-// A text at a place, and the place behind it.
+// A text, or any bytes, at a place, and the place behind them.
 pub fn put_text(out: &mut [u8], at: usize, text: &[u8]) -> usize
     ensures { λ r. ⌜ r ≡ placeBehind at (now (text .entry)) (now (out .entry)) ⌝ }
     ensures { λ _. ⌜ now (out .exit) ≡ putAt at (now (text .entry)) (now (out .entry)) ⌝ }
