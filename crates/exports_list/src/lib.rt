@@ -2,7 +2,8 @@
 ghost use mathlib.Core.Path.{_≡_};
 ghost use lib.ListN.{length};
 ghost use Rattle.laws.specs.Laid.{written};
-ghost use Rattle.filter_list.specs.Pattern.{widthOf, patternOf};
+ghost use Rattle.identifiers.specs.Limits.{widthOf};
+ghost use Rattle.filter_list.specs.Pattern.{patternOf};
 ghost use Rattle.filter_list.specs.Answers.{listedOf, listedSaid};
 ghost use Rattle.answers.specs.Answers.{answerOf, delivering, deliveryLeaves};
 use answers::Answer;

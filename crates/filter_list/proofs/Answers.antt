@@ -8,8 +8,8 @@ use native.Mathlib.Omega.{arith}
 use borrow.Author.Tests.{lt-ltb, le-ltb, eq-eqb, ne-eqb}
 use Rattle.laws.specs.Said.{refuses, gives}
 use Rattle.laws.specs.Laid.{laidFirst, written}
-use Rattle.identifiers.specs.Limits.{limitOf}
-use Rattle.filter_list.specs.Pattern.{widthOf, characterAt, downFrom, patternOf}
+use Rattle.identifiers.specs.Limits.{widthOf, limitOf}
+use Rattle.filter_list.specs.Pattern.{characterAt, downFrom, patternOf}
 use Rattle.filter_list.specs.Answers.{firstAbove, registersFor, throughOf, registersOfList, listingOf, listedOf, leaves}
 use Rattle.filter_list.proofs.Pattern.{down-front, down-same}
 

@@ -1,14 +1,13 @@
 -- Characters from the highest position down: as many as positions, each at its place, and the same where each position's is. Assumes nothing.
-use Prim.Native.Nat.{ℕ, zero, suc, _-_, _≤_, _<_}
+use Prim.Native.Nat.{ℕ, zero, suc, _-_, _<_}
 use mathlib.Core.Path.{_≡_, refl, ap, ap₂, _∙_}
-use mathlib.Core.Bool.{Bool, true, false}
 use mathlib.Core.List.{List, _∷_}
 use lib.ListN.{length, getD, take, drop}
 use lib.Seq.{take-at}
 use native.Mathlib.Nat.{not-suc-le-zero, le-of-suc-le-suc}
 use native.Mathlib.Omega.{arith}
 use Rattle.laws.specs.Laid.{laidFirst}
-use Rattle.filter_list.specs.Pattern.{widthOf, downFrom}
+use Rattle.filter_list.specs.Pattern.{downFrom}
 
 pub down-length : (n : ℕ) (f : ℕ → ℕ) → length (downFrom n f) ≡ n
 down-length zero f = refl
@@ -26,7 +25,3 @@ down-front n f out now e = ap (take n) e ∙ take-at (downFrom n f) (drop (lengt
 pub down-same : (n : ℕ) (f g : ℕ → ℕ) → ((k : ℕ) → k < n → f k ≡ g k) → downFrom n f ≡ downFrom n g
 down-same zero f g e = refl
 down-same (suc n) f g e = ap₂ (λ (c : ℕ) (cs : List ℕ). c ∷ cs) (e n (omega arith)) (down-same n f g (λ k h. e k (omega arith)))
-
-pub width-le : (extended : Bool) → widthOf extended ≤ 32
-width-le false = omega arith
-width-le true = omega arith

@@ -10,11 +10,11 @@ use Rattle.laws.specs.Bits.{bitAt}
 use Rattle.laws.specs.Said.{Said, refuses, gives}
 use Rattle.laws.specs.Laid.{written}
 use Rattle.refusals.specs.Table.{refusalSaid}
-use Rattle.identifiers.specs.Limits.{limitOf}
+use Rattle.identifiers.specs.Limits.{widthOf, limitOf}
 use Rattle.filter_registers.specs.Registers.{maskIn}
 use Rattle.filter_patterns.specs.Table.{fieldsOf}
 use Rattle.filter_patterns.specs.Answers.{answered, compileOf}
-use Rattle.filter_list.specs.Pattern.{widthOf, patternOf, singleOf, withIdentifier}
+use Rattle.filter_list.specs.Pattern.{patternOf, singleOf, withIdentifier}
 use Rattle.filter_list.specs.declared.Listing.{Listing}
 use Rattle.filter_list.specs.declared.Listing.the-variants.{Made, Refused}
 use Rattle.filter_list.specs.declared.Listed.{Listed}

@@ -1,6 +1,5 @@
 -- The identifier pattern of a list, and the filter that it makes.
--- Source: request #102: a position where all agree is fixed, any other is `x`, and RTR and payload are `x`; ISO 11898-1, base format (11 bits) and
--- extended format (29 bits).
+-- Source: request #102: a position where all agree is fixed, any other is `x`, and RTR and payload are `x`.
 use Prim.Native.Nat.{ℕ, zero, suc, _+_}
 use mathlib.Core.Bool.{Bool, true, false, cond, _&&_}
 use mathlib.Core.List.{List, [], _∷_}
@@ -8,11 +7,6 @@ use lib.Dec.{eqb}
 use lib.ListN.{replicate}
 use Rattle.laws.specs.Bits.{bitAt}
 use Rattle.filter_patterns.specs.Table.{Filter, singleStandard, singleExtended}
-
--- how many bits an identifier has, by its format (extended or not)
-abbrev pub widthOf : Bool → ℕ
-widthOf false = 11
-widthOf true = 29
 
 -- each entry has this bit at a position
 abbrev pub allHave : ℕ → ℕ → List ℕ → Bool

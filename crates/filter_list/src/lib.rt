@@ -5,9 +5,8 @@ ghost use lib.ListN.{length, replicate};
 ghost use Rattle.laws.specs.Said.{gives};
 ghost use Rattle.laws.specs.Laid.{laidFirst};
 ghost use Rattle.refusals.specs.Table.{refusalSaid};
-ghost use Rattle.identifiers.specs.Limits.{limitOf};
 ghost use Rattle.filter_registers.specs.Registers.{maskIn};
-ghost use Rattle.filter_list.specs.Pattern.{widthOf, characterAt, characterBy, downFrom};
+ghost use Rattle.filter_list.specs.Pattern.{characterAt, characterBy, downFrom};
 ghost use Rattle.filter_list.specs.Answers.{firstAbove, registersFor, throughOf, listedOf, leaves, listedSaid};
 use filters::SingleExtendedFilter;
 use filters::SingleStandardFilter;
@@ -30,24 +29,6 @@ pub struct Folded {
     pub above: usize,
     pub agreed: u32,
     pub differing: u32,
-}
-
-fn width(extended: bool) -> usize
-    ensures { λ r. ⌜ r ≡ widthOf extended ⌝ }
-{
-    if extended {
-        return 29;
-    }
-    11
-}
-
-fn limit(extended: bool) -> u32
-    ensures { λ r. ⌜ r ≡ limitOf extended ⌝ }
-{
-    if extended {
-        return 0x1FFF_FFFF;
-    }
-    0x7FF
 }
 
 fn fold(list: &[u32], limit: u32) -> Folded
@@ -153,8 +134,8 @@ pub fn from_list(extended: bool, list: &[u32], pattern: &mut [u8]) -> Listed
     if list.len() == 0 {
         return refused(Refusal::EmptyList);
     }
-    let needed = width(extended);
-    let folded = fold(list, limit(extended));
+    let needed = identifiers::width(extended);
+    let folded = fold(list, identifiers::limit(extended));
     let above = folded.above;
     if above < list.len() {
         return refused(Refusal::IdentifierAboveLimit(above));

@@ -13,7 +13,7 @@ use Rattle.laws.specs.Said.{Said, refuses, gives, accepted}
 use Rattle.laws.specs.Laid.{written}
 use Rattle.laws.proofs.Said.{passed, gives-same}
 use Rattle.laws.proofs.Bools.{and-yes}
-use Rattle.identifiers.specs.Limits.{limitOf}
+use Rattle.identifiers.specs.Limits.{widthOf, limitOf}
 use Rattle.filter_patterns.specs.Table.{fieldsOf}
 use Rattle.filter_patterns.specs.Words.{isCharacter}
 use Rattle.filter_patterns.specs.Answers.{answered, compileOf}
@@ -24,7 +24,7 @@ use Rattle.frame_building.specs.Buffer.{bufferOf}
 use Rattle.frame_building.specs.Building.{judged}
 use Rattle.frame_building.proofs.RoundTrip.{reads-back}
 use Rattle.matcher.specs.Words.{matchOf}
-use Rattle.filter_list.specs.Pattern.{widthOf, allHave, characterAt, downFrom, patternOf, singleOf, withIdentifier}
+use Rattle.filter_list.specs.Pattern.{allHave, characterAt, downFrom, patternOf, singleOf, withIdentifier}
 use Rattle.filter_list.specs.Answers.{firstAbove, registersFor, idPositions, throughOf, registersOfList, listingOf, listedOf, leaves}
 use Rattle.filter_list.proofs.Pattern.{down-length}
 use Rattle.filter_list_laws.specs.Accepts.{acceptsId, countBelow, acceptedOf}

@@ -8,6 +8,7 @@ use lib.ListN.{length, replicate}
 use native.Mathlib.Omega.{arith}
 use borrow.Author.Tests.{eq-eqb}
 use Rattle.laws.specs.Said.{gives}
+use Rattle.identifiers.specs.Limits.{widthOf}
 use Rattle.filter_patterns.specs.Table.{fieldsOf}
 use Rattle.filter_patterns.specs.Words.{isCharacter}
 use Rattle.filters.specs.Words.{written}
@@ -20,7 +21,7 @@ use Rattle.shown_words.specs.Fields.{numbersIn}
 use Rattle.matcher.specs.Match.{fits, allFit, fitsEither, fitsFilter, acceptsOf}
 use Rattle.matcher.specs.Words.{matchOf}
 use Rattle.matcher.proofs.EndToEnd.{end-to-end}
-use Rattle.filter_list.specs.Pattern.{widthOf, singleOf, withIdentifier}
+use Rattle.filter_list.specs.Pattern.{singleOf, withIdentifier}
 use Rattle.filter_list.specs.Answers.{registersFor}
 use Rattle.filter_list_laws.specs.Accepts.{acceptsId}
 

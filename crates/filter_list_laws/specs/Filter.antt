@@ -6,10 +6,11 @@ use mathlib.Core.Bool.{Bool, true}
 use mathlib.Core.List.{List, List·Memᴰ}
 use lib.ListN.{length}
 use Rattle.laws.specs.Said.{gives}
+use Rattle.identifiers.specs.Limits.{widthOf}
 use Rattle.filter_patterns.specs.Answers.{compileOf}
 use Rattle.frames.specs.Buffer.{extendedOf, idOf}
 use Rattle.matcher.specs.Words.{matchOf}
-use Rattle.filter_list.specs.Pattern.{widthOf, singleOf, withIdentifier}
+use Rattle.filter_list.specs.Pattern.{singleOf, withIdentifier}
 use Rattle.filter_list_laws.specs.Accepts.{acceptsId, acceptedOf}
 
 pub record ListFilter (extended : Bool) (list : List ℕ) (through : ℕ) (registers pattern : List ℕ) : Type 0 where

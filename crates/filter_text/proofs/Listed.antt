@@ -10,8 +10,8 @@ use borrow.Author.Tests.{le-ltb, ne-eqb}
 use Rattle.laws.specs.Said.{Said, gives, accepted}
 use Rattle.laws.specs.Laid.{laidFirst, written}
 use Rattle.laws.proofs.Said.{gives-same}
-use Rattle.identifiers.specs.Limits.{limitOf}
-use Rattle.filter_list.specs.Pattern.{widthOf, characterAt, patternOf}
+use Rattle.identifiers.specs.Limits.{widthOf, limitOf}
+use Rattle.filter_list.specs.Pattern.{characterAt, patternOf}
 use Rattle.filter_list.specs.Answers.{firstAbove, throughOf, registersOfList, listingOf, listedOf, leaves, listingSaid, listedSaid}
 use Rattle.filter_list.specs.declared.Listing.{Listing}
 use Rattle.filter_list.specs.declared.Listing.the-variants.{Made, Refused}

@@ -5,8 +5,8 @@ use mathlib.Core.Bool.{Bool, true, false, cond}
 use mathlib.Core.List.{List, [], _∷_, _++_}
 use lib.Dec.{ltb, leb}
 use lib.ListN.{length}
-use Rattle.identifiers.specs.Limits.{limitOf}
-use Rattle.filter_list.specs.Pattern.{widthOf, patternOf}
+use Rattle.identifiers.specs.Limits.{widthOf, limitOf}
+use Rattle.filter_list.specs.Pattern.{patternOf}
 use Rattle.filter_list.specs.Answers.{throughOf, registersOfList}
 use Rattle.filter_list.specs.declared.Listing.{Listing}
 use Rattle.filter_list.specs.declared.Listing.the-variants.{Made, Refused}

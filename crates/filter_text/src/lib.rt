@@ -5,7 +5,6 @@ ghost use Prim.Native.Nat.{ℕ, _+_, _*_, _/_, _^_, _<_, _≤_};
 ghost use lib.ListN.{length, take, drop};
 ghost use Rattle.laws.specs.Laid.{laidFirst, laid, laying, written};
 ghost use Rattle.identifiers.specs.Limits.{limitOf};
-ghost use Rattle.filter_list.specs.Pattern.{widthOf};
 ghost use Rattle.filter_list.specs.Answers.{firstAbove};
 ghost use Rattle.answers.specs.Answers.{answerOf};
 ghost use Rattle.filter_text.specs.Line.{isBlank, ends as Line·ends, unblanked, digitOf, baseOf, judged as Line·judged, numberFrom, numberOf, isHex, wordOf, lineOf};
@@ -301,24 +300,6 @@ fn put_hex(page: &mut [u8], at: usize, bytes: &[u8]) -> usize
     at + 2 * i
 }
 
-fn width(extended: bool) -> usize
-    ensures { λ r. ⌜ (r ≡ widthOf extended) × (r ≤ 29) ⌝ }
-{
-    if extended {
-        return 29;
-    }
-    11
-}
-
-fn limit(extended: bool) -> u32
-    ensures { λ r. ⌜ r ≡ limitOf extended ⌝ }
-{
-    if extended {
-        return 0x1FFF_FFFF;
-    }
-    0x7FF
-}
-
 fn through_in(answer: Listing) -> u32
     ensures { λ r. ⌜ (r ≡ throughIn answer) × (r < 2 ^ 32) ⌝ }
 {
@@ -357,7 +338,7 @@ fn put_filter(extended: bool, list: &[u32], page: &mut [u8]) -> usize
     let registers = listed.registers;
     let through = through_in(answer);
     put_lines(
-        &pattern[..width(extended)],
+        &pattern[..identifiers::width(extended)],
         &registers,
         through as usize,
         page,
@@ -404,7 +385,7 @@ fn put_read(extended: bool, text: &[u8], page: &mut [u8]) -> usize
         × (now (page .exit) ≡ laidFirst (foundText extended (foundIn (limitOf extended) (now (text .entry)))) (now (page .entry))) × (r ≤ 128) ⌝ }
 {
     let mut list = [0u32; 32768];
-    let reading = read_list(text, limit(extended), &mut list);
+    let reading = read_list(text, identifiers::limit(extended), &mut list);
     match reading {
         Reading::All(count) => put_list(extended, &list[..count], page),
         Reading::AboveAt(number) => put_above(extended, number, page),

@@ -6,6 +6,11 @@ use lib.Dec.{leb}
 use Rattle.identifiers.specs.declared.Id.{Id}
 use Rattle.identifiers.specs.declared.Id.the-variants.{Standard, Extended}
 
+-- how many bits an identifier has, by its format (extended or not)
+abbrev pub widthOf : Bool → ℕ
+widthOf false = 11
+widthOf true = 29
+
 -- the largest identifier of the base format, and of the extended format
 abbrev pub limitOf : Bool → ℕ
 limitOf false = 0x7FF

@@ -1,7 +1,8 @@
 // Identifiers: 11 bits or 29 bits, each in a struct of its own, so that one never passes for the other.
 ghost use mathlib.Core.Path.{_≡_};
 ghost use mathlib.Core.Bool.{true, false};
-ghost use Rattle.identifiers.specs.Limits.{withinLimit};
+ghost use Prim.Native.Nat.{_≤_};
+ghost use Rattle.identifiers.specs.Limits.{widthOf, limitOf, withinLimit};
 ghost use Rattle.identifiers.specs.Answers.{standardSaid, extendedSaid, newOf, baseOf};
 use refusals::Refusal;
 
@@ -23,6 +24,24 @@ pub enum StandardMade {
 pub enum ExtendedMade {
     Made(ExtendedId),
     Refused(Refusal),
+}
+
+pub fn width(extended: bool) -> usize
+    ensures { λ r. ⌜ (r ≡ widthOf extended) × (r ≤ 29) ⌝ }
+{
+    if extended {
+        return 29;
+    }
+    11
+}
+
+pub fn limit(extended: bool) -> u32
+    ensures { λ r. ⌜ r ≡ limitOf extended ⌝ }
+{
+    if extended {
+        return 0x1FFF_FFFF;
+    }
+    0x7FF
 }
 
 impl StandardId {

@@ -2,10 +2,9 @@
 -- Assumes nothing.
 use mathlib.Core.Path.{sym, ap, _∙_}
 use lib.ListN.{length}
-use native.Mathlib.Omega.{arith}
 use borrow.Author.Needs.{needs}
 use Rattle.filter_list.specs.Pattern.{characterBy}
-use Rattle.filter_list.proofs.Pattern.{down-length, down-front, width-le}
+use Rattle.filter_list.proofs.Pattern.{down-length, down-front}
 use Rattle.filter_list.proofs.Answers.{empty, above, short, made}
 use Rattle.filter_list.proofs.from_list.Statement.{statement}
 use Rattle.filter_list.proofs.from_list.Tie as tie
@@ -45,11 +44,11 @@ returns-3 : tie.Need-returns-3
 returns-3 c =
     let fold = c .before .before .before in
     let start = fold .before .before .before .before .before .before in
-    let due = short (start .args .extended) (start .args .list .now) (start .args .pattern .now) (fold .before .before .before .if1 .left) _ _ (fold .before .limit .ensures) (fold .fold .ensures .0) (c .before .before .if2 .left) _ (fold .before .before .width .ensures) (c .before .if3 .taken) in
+    let due = short (start .args .extended) (start .args .list .now) (start .args .pattern .now) (fold .before .before .before .if1 .left) _ _ (fold .before .limit .ensures) (fold .fold .ensures .0) (c .before .before .if2 .left) _ (fold .before .before .width .ensures .0) (c .before .if3 .taken) in
     (c .refused3 .ensures ∙ due .0, due .1)
 
 write-requires : tie.Need-write-requires
-write-requires c κs = (omega (arith, width-le (c .before .before .before .before .before .before .before .before .before .args .extended)), omega arith)
+write-requires c κs = search needs
 
 slice-reshare-prefix-compile : tie.Need-slice-reshare-prefix-compile
 slice-reshare-prefix-compile c = search needs
@@ -77,7 +76,7 @@ returns-4 c =
     let start = fold .before .before .before .before .before .before in
     let f = characterBy (fold .fold .result .agreed) (fold .fold .result .differing) in
     let all = written .before .before .before .if2 .left in
-    let due = made (start .args .extended) (start .args .list .now) (start .args .pattern .now) (fold .before .before .before .if1 .left) _ _ (fold .before .limit .ensures) (fold .fold .ensures .0) all _ (fold .before .before .width .ensures) f (fold .fold .ensures .1 all) _ (written .write .ensures) _ (written .before .before .if3 .left) (c .before .compile .ensures) in
+    let due = made (start .args .extended) (start .args .list .now) (start .args .pattern .now) (fold .before .before .before .if1 .left) _ _ (fold .before .limit .ensures) (fold .fold .ensures .0) all _ (fold .before .before .width .ensures .0) f (fold .fold .ensures .1 all) _ (written .write .ensures) _ (written .before .before .if3 .left) (c .before .compile .ensures) in
     (c .given .ensures ∙ due .0, due .1)
 
 pub from-list-spec : {M : Type 1} → statement M

@@ -6,7 +6,8 @@ use lib.ListN.{length, take, replicate}
 use lib.Seq.{length-take-le}
 use native.Mathlib.Omega.{arith}
 use borrow.Author.Needs.{needs}
-use Rattle.filter_list.specs.Pattern.{widthOf, patternOf}
+use Rattle.identifiers.specs.Limits.{widthOf}
+use Rattle.filter_list.specs.Pattern.{patternOf}
 use Rattle.filter_text.specs.Text.{linesText, filterText}
 use Rattle.filter_text.proofs.Listed.{through-made, registers-made, pattern-made, put-as}
 use Rattle.filter_text.proofs.put_filter.Statement.{statement}
