@@ -140,27 +140,6 @@ fn words_at(script: &[u8], at: usize) -> Words
     }
 }
 
-fn frame_at(script: &[u8], at: usize) -> [u8; 13]
-    requires { ⌜ at + 13 ≤ length (now script) ⌝ }
-    ensures { λ r. ⌜ r ≡ part (now (script .entry)) at 13 ⌝ }
-{
-    [
-        script[at],
-        script[at + 1],
-        script[at + 2],
-        script[at + 3],
-        script[at + 4],
-        script[at + 5],
-        script[at + 6],
-        script[at + 7],
-        script[at + 8],
-        script[at + 9],
-        script[at + 10],
-        script[at + 11],
-        script[at + 12],
-    ]
-}
-
 fn number_at(script: &[u8], at: usize) -> usize
     requires { ⌜ at < length (now script) ⌝ }
     ensures { λ r. ⌜ r ≡ getD (now (script .entry)) at 0 ⌝ }
@@ -172,7 +151,7 @@ fn entry_at(script: &[u8], at: usize) -> Entry
     requires { ⌜ at + 14 ≤ length (now script) ⌝ }
     ensures { λ r. ⌜ r ≡ entryAt (now (script .entry)) at ⌝ }
 {
-    let bytes = frame_at(script, at + 1);
+    let bytes = octets::thirteen(script, at + 1);
     if script[at] == 0 {
         return Entry {
             mark: false,
@@ -217,7 +196,7 @@ fn record_at(script: &[u8], at: usize) -> Record
     ensures { λ r. ⌜ r ≡ recordAt (now (script .entry)) at ⌝ }
 {
     let kind = kind_of(script[at]);
-    let bytes = frame_at(script, at + 1);
+    let bytes = octets::thirteen(script, at + 1);
     Record {
         kind: kind,
         bytes: bytes,
@@ -688,7 +667,7 @@ fn run_call(state: ReceiveBox, script: &[u8], at: usize, out: &mut [u8], to: usi
 {
     let first = script[at];
     if first == ARRIVAL {
-        return run_arrival(state, frame_at(script, at + 1), out, to);
+        return run_arrival(state, octets::thirteen(script, at + 1), out, to);
     }
     if first == TAKE {
         return run_take(state, out, to);

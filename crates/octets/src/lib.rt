@@ -1,8 +1,9 @@
-// Bytes and flags as numbers, with their bounds, a word from its four bytes, and its lowest byte.
+// Bytes and flags as numbers, with their bounds, a word from its four bytes, its lowest byte, and thirteen bytes from a place on.
 ghost use mathlib.Core.Path.{_≡_};
 ghost use mathlib.Core.List.{_∷_, []};
 ghost use Prim.Native.Nat.{_<_, _%_, _^_};
 ghost use Rattle.laws.specs.Row.{bit, pack, bytes};
+ghost use Rattle.octets.specs.Part.{partOrZeros};
 
 pub fn wide(byte: u8) -> u32
     ensures { λ r. ⌜ (r ≡ byte) × (r < 256) ⌝ }
@@ -30,4 +31,31 @@ pub fn low_byte(word: u32) -> u8
     ensures { λ r. ⌜ r ≡ word % 256 ⌝ }
 {
     (word % 256) as u8
+}
+
+// Zeros where there are fewer.
+pub fn thirteen(bytes: &[u8], at: usize) -> [u8; 13]
+    ensures { λ r. ⌜ r ≡ partOrZeros 13 at (now (bytes .entry)) ⌝ }
+{
+    if at > bytes.len() {
+        return [0; 13];
+    }
+    if bytes.len() - at < 13 {
+        return [0; 13];
+    }
+    [
+        bytes[at],
+        bytes[at + 1],
+        bytes[at + 2],
+        bytes[at + 3],
+        bytes[at + 4],
+        bytes[at + 5],
+        bytes[at + 6],
+        bytes[at + 7],
+        bytes[at + 8],
+        bytes[at + 9],
+        bytes[at + 10],
+        bytes[at + 11],
+        bytes[at + 12],
+    ]
 }

@@ -33,32 +33,11 @@ fn word_at(file: &[u8], at: usize) -> u32
     octets::word(file[at], file[at + 1], file[at + 2], file[at + 3])
 }
 
-fn frame_at(file: &[u8], at: usize) -> [u8; 13]
-    requires { ⌜ at + frameBytes ≤ length (now file) ⌝ }
-    ensures { λ r. ⌜ r ≡ part (now (file .entry)) at frameBytes ⌝ }
-{
-    [
-        file[at],
-        file[at + 1],
-        file[at + 2],
-        file[at + 3],
-        file[at + 4],
-        file[at + 5],
-        file[at + 6],
-        file[at + 7],
-        file[at + 8],
-        file[at + 9],
-        file[at + 10],
-        file[at + 11],
-        file[at + 12],
-    ]
-}
-
 fn shown_at(file: &[u8], at: usize) -> Shown
     requires { ⌜ at + frameBytes ≤ length (now file) ⌝ }
     ensures { λ r. ⌜ r ≡ showOf (part (now (file .entry)) at frameBytes) ⌝ }
 {
-    let frame = frame_at(file, at);
+    let frame = octets::thirteen(file, at);
     shown_words::show(&frame)
 }
 
