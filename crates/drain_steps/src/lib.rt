@@ -1,8 +1,10 @@
 // The steps of a drain, each on the whole box: which comes next is not judged here.
 ghost use mathlib.Core.Path.{_≡_};
 ghost use Rattle.receive_box.specs.Rules.{busOff};
-ghost use Rattle.drain_steps.specs.Step.{steppingSaid, steppedSaid, quietly, refusedStep, holding, offering, afterNotice, noticeStep, lookStep, missStep, copyStep, releaseStep, offerStep, finishStep};
+ghost use Rattle.receive_box.specs.Calls.{withOf};
+ghost use Rattle.drain_steps.specs.Step.{steppingSaid, steppedSaid, atPhase, quietly, refusedStep, holding, offering, afterNotice, noticeStep, lookStep, missStep, copyStep, releaseStep, offerStep, finishStep};
 use queue::Offering;
+use queue::Queue;
 use receive_box::Phase;
 use receive_box::ReceiveBox;
 use records::Record;
@@ -74,6 +76,16 @@ pub fn refused(refusal: Refusal, state: ReceiveBox) -> Stepped
     told(Stepping::Refused(refusal), Command::Nothing, none, state)
 }
 
+fn with_queue(state: ReceiveBox, queue: Queue, phase: Phase) -> ReceiveBox
+    ensures { λ r. ⌜ r ≡ withOf state (state .fifo) queue phase (state .held) ⌝ }
+{
+    ReceiveBox {
+        queue: queue,
+        phase: phase,
+        ..state
+    }
+}
+
 // Offers a record to the queue, and goes on at one of two steps.
 fn offer_record(
     state: ReceiveBox,
@@ -89,22 +101,13 @@ fn offer_record(
     let after = out.state;
     let answer = out.answer;
     match answer {
-        Offering::Stored => {
-            let next = ReceiveBox {
-                queue: after,
-                phase: stored,
-                ..state
-            };
-            quiet(command, next)
-        }
-        Offering::Lost => {
-            let next = ReceiveBox {
-                queue: after,
-                phase: lost,
-                ..state
-            };
-            told(Stepping::Lost, command, offered, next)
-        }
+        Offering::Stored => quiet(command, with_queue(state, after, stored)),
+        Offering::Lost => told(
+            Stepping::Lost,
+            command,
+            offered,
+            with_queue(state, after, lost),
+        ),
         Offering::Refused(refusal) => refused(refusal, state),
     }
 }
@@ -127,22 +130,23 @@ pub fn notice_step(state: ReceiveBox) -> Stepped
     offer_record(state, notice, Command::Abort, next, next)
 }
 
+fn at_phase(state: ReceiveBox, phase: Phase) -> ReceiveBox
+    ensures { λ r. ⌜ r ≡ atPhase state phase ⌝ }
+{
+    ReceiveBox {
+        phase: phase,
+        ..state
+    }
+}
+
 pub fn look_step(state: ReceiveBox) -> Stepped
     ensures { λ r. ⌜ steppedSaid r ≡ lookStep state ⌝ }
 {
     let fifo = state.fifo;
     if fifo.count == 0 {
-        let ended = ReceiveBox {
-            phase: Phase::Finish,
-            ..state
-        };
-        return quiet(Command::Nothing, ended);
+        return quiet(Command::Nothing, at_phase(state, Phase::Finish));
     }
-    let next = ReceiveBox {
-        phase: Phase::Miss,
-        ..state
-    };
-    quiet(Command::Nothing, next)
+    quiet(Command::Nothing, at_phase(state, Phase::Miss))
 }
 
 // A record is held, and the front is released next.
@@ -167,11 +171,7 @@ pub fn miss_step(state: ReceiveBox) -> Stepped
             holding(state, receive_box::record_of(front)),
         );
     }
-    let next = ReceiveBox {
-        phase: Phase::Copy,
-        ..state
-    };
-    quiet(Command::Nothing, next)
+    quiet(Command::Nothing, at_phase(state, Phase::Copy))
 }
 
 pub fn copy_step(state: ReceiveBox) -> Stepped
@@ -208,9 +208,6 @@ pub fn finish_step(state: ReceiveBox) -> Stepped
     let words = state.words;
     let finished = words.finish();
     let none = Record::blank();
-    let idle = ReceiveBox {
-        phase: Phase::Idle,
-        ..state
-    };
+    let idle = at_phase(state, Phase::Idle);
     told(Stepping::Finished(finished), Command::Nothing, none, idle)
 }

@@ -10,12 +10,15 @@ finish-requires c κs = search needs
 blank-requires : tie.Need-blank-requires
 blank-requires c κs = search needs
 
+at-phase-requires : tie.Need-at-phase-requires
+at-phase-requires c κs = search needs
+
 told-requires : tie.Need-told-requires
 told-requires c κs = search needs
 
 returns : tie.Need-returns
 unfolding finishStep
-returns c = search (needs, c .told .ensures, c .before .before .before .before .before .blank .ensures, c .before .before .before .before .before .before .finish .ensures)
+returns c = search (needs, c .told .ensures, c .before .at-phase .ensures, c .before .before .blank .ensures, c .before .before .before .finish .ensures)
 
 pub finish-step-spec : {M : Type 1} → statement M
-finish-step-spec = tie.close (tie.spec finish-requires blank-requires told-requires returns)
+finish-step-spec = tie.close (tie.spec finish-requires blank-requires at-phase-requires told-requires returns)

@@ -21,12 +21,15 @@ returns : tie.Need-returns
 unfolding missStep
 returns c = c .quiet .ensures ∙ rw (c .before .holding .ensures, ← c .before .before .before .before .front .ensures, c .before .before .before .if1 .taken, c .before .before .record-of .ensures, c .before .before .before .if1 .taken)
 
+at-phase-requires : tie.Need-at-phase-requires
+at-phase-requires c κs = search needs
+
 quiet-requires-2 : tie.Need-quiet-requires-2
 quiet-requires-2 c κs = search needs
 
 returns-2 : tie.Need-returns-2
 unfolding missStep
-returns-2 c = search (needs, c .quiet2 .ensures, c .before .before .before .before .before .if1 .left, ← c .before .before .before .before .before .before .front .ensures)
+returns-2 c = search (needs, c .quiet2 .ensures, c .before .at-phase .ensures, c .before .before .if1 .left, ← c .before .before .before .front .ensures)
 
 pub miss-step-spec : {M : Type 1} → statement M
-miss-step-spec = tie.close (tie.spec front-requires record-of-requires holding-requires quiet-requires returns quiet-requires-2 returns-2)
+miss-step-spec = tie.close (tie.spec front-requires record-of-requires holding-requires quiet-requires returns at-phase-requires quiet-requires-2 returns-2)

@@ -11,11 +11,17 @@ offer-requires c κs = search needs
 enum-told : tie.Need-enum-told
 enum-told c = search needs
 
+with-queue-requires : tie.Need-with-queue-requires
+with-queue-requires c κs = search needs
+
 quiet-requires : tie.Need-quiet-requires
 quiet-requires c κs = search needs
 
 enum-told-2 : tie.Need-enum-told-2
 enum-told-2 c = search needs
+
+with-queue-requires-2 : tie.Need-with-queue-requires-2
+with-queue-requires-2 c κs = search needs
 
 told-requires : tie.Need-told-requires
 told-requires c κs = search needs
@@ -28,11 +34,11 @@ refused-requires c κs = search needs
 
 returns : tie.Need-returns
 unfolding offering
-returns c = search (needs, c .quiet .ensures, c .before .before .before .before .enum-told .given .1, ← c .before .before .before .before .before .before .before .offer .ensures)
+returns c = search (needs, c .quiet .ensures, c .before .with-queue .ensures, c .before .before .enum-told .given .1, ← c .before .before .before .before .before .offer .ensures)
 
 returns-2 : tie.Need-returns-2
 unfolding offering
-returns-2 c = c .told .ensures ∙ simp (← c .before .before .before .before .before .before .before .offer .ensures, c .before .before .before .before .enum-told2 .given .1)
+returns-2 c = c .told .ensures ∙ simp (c .before .with-queue2 .ensures, ← c .before .before .before .before .before .offer .ensures, c .before .before .enum-told2 .given .1)
 
 returns-3 : tie.Need-returns-3
 unfolding offering
@@ -44,8 +50,10 @@ offer-record-spec =
     (tie.spec
     offer-requires
     enum-told
+    with-queue-requires
     quiet-requires
     enum-told-2
+    with-queue-requires-2
     told-requires
     enum-known-answer
     refused-requires
