@@ -2,13 +2,11 @@
 ghost use mathlib.Core.Path.{_≡_};
 ghost use mathlib.Core.Bool.{true, false, _&&_};
 ghost use mathlib.Core.List.{[], _∷_};
-ghost use lib.ListN.{length};
 ghost use Rattle.laws.specs.Row.{bit};
 ghost use Rattle.filter_registers.specs.Answers.{compiledSaid};
 ghost use Rattle.filter_patterns.specs.Table.{singleStandard, singleExtended, dualStandard, dualExtended};
 ghost use Rattle.filter_patterns.specs.Answers.{compileOf};
 ghost use Rattle.filters.specs.Answers.{codeMaskOf, bothWithin};
-ghost use Rattle.laws.specs.Laid.{written};
 ghost use Rattle.answers.specs.Answers.{answerOf, delivering, deliveryLeaves};
 use answers::Answer;
 use filter_registers::Compiled;
@@ -20,12 +18,14 @@ use filters::SingleStandardFilter;
 use identifiers::ExtendedId;
 use identifiers::StandardId;
 
-// The answer of compiling, and the registers in a lent slice of 8 bytes.
-fn deliver(compiled: Compiled, registers: &mut [u8]) -> Answer
-    requires { ⌜ length (now registers) ≡ 8 ⌝ }
-    ensures { λ r. ⌜ r ≡ answerOf (compiledSaid compiled .0) ⌝ }
-    ensures { λ _. ⌜ now (registers .exit) ≡ written (compiledSaid compiled .0) (compiled .registers) (now (registers .entry)) ⌝ }
+// The answer of compiling, and the registers in a lent slice, the argument of this number; it has 8 bytes, or it is refused.
+fn deliver(compiled: Compiled, argument: usize, registers: &mut [u8]) -> Answer
+    ensures { λ r. ⌜ r ≡ answerOf (delivering 8 argument (now (registers .entry)) (compiledSaid compiled)) ⌝ }
+    ensures { λ _. ⌜ now (registers .exit) ≡ deliveryLeaves 8 argument (now (registers .entry)) (compiledSaid compiled) ⌝ }
 {
+    if registers.len() != 8 {
+        return answers::wrong_length(argument);
+    }
     let answer = compiled.answer;
     let bytes = compiled.registers;
     match answer {
@@ -45,10 +45,11 @@ pub extern "C" fn chherbolat_single_standard_filter_new(
     ensures { λ r. ⌜ r ≡ answerOf (delivering 8 4 (now (registers .entry)) (compileOf singleStandard (now (id .entry) ∷ now (rtr .entry) ∷ now (first .entry) ∷ now (second .entry) ∷ []))) ⌝ }
     ensures { λ _. ⌜ now (registers .exit) ≡ deliveryLeaves 8 4 (now (registers .entry)) (compileOf singleStandard (now (id .entry) ∷ now (rtr .entry) ∷ now (first .entry) ∷ now (second .entry) ∷ [])) ⌝ }
 {
-    if registers.len() != 8 {
-        return answers::wrong_length(4);
-    }
-    deliver(SingleStandardFilter::new(id, rtr, first, second), registers)
+    deliver(
+        SingleStandardFilter::new(id, rtr, first, second),
+        4,
+        registers,
+    )
 }
 
 #[no_mangle]
@@ -66,9 +67,6 @@ pub extern "C" fn chherbolat_single_standard_filter_new_from_code_mask(
     ensures { λ r. ⌜ r ≡ answerOf (delivering 8 8 (now (registers .entry)) (codeMaskOf singleStandard (bothWithin false «id_code» «id_mask») («id_code» ∷ bit «rtr_code» ∷ «first_code» ∷ «second_code» ∷ []) («id_mask» ∷ bit «rtr_mask» ∷ «first_mask» ∷ «second_mask» ∷ []))) ⌝ }
     ensures { λ _. ⌜ now (registers .exit) ≡ deliveryLeaves 8 8 (now (registers .entry)) (codeMaskOf singleStandard (bothWithin false «id_code» «id_mask») («id_code» ∷ bit «rtr_code» ∷ «first_code» ∷ «second_code» ∷ []) («id_mask» ∷ bit «rtr_mask» ∷ «first_mask» ∷ «second_mask» ∷ [])) ⌝ }
 {
-    if registers.len() != 8 {
-        return answers::wrong_length(8);
-    }
     deliver(
         SingleStandardFilter::new_from_code_mask(
             StandardId(id_code),
@@ -80,6 +78,7 @@ pub extern "C" fn chherbolat_single_standard_filter_new_from_code_mask(
             first_mask,
             second_mask,
         ),
+        8,
         registers,
     )
 }
@@ -93,10 +92,7 @@ pub extern "C" fn chherbolat_single_extended_filter_new(
     ensures { λ r. ⌜ r ≡ answerOf (delivering 8 2 (now (registers .entry)) (compileOf singleExtended (now (id .entry) ∷ now (rtr .entry) ∷ []))) ⌝ }
     ensures { λ _. ⌜ now (registers .exit) ≡ deliveryLeaves 8 2 (now (registers .entry)) (compileOf singleExtended (now (id .entry) ∷ now (rtr .entry) ∷ [])) ⌝ }
 {
-    if registers.len() != 8 {
-        return answers::wrong_length(2);
-    }
-    deliver(SingleExtendedFilter::new(id, rtr), registers)
+    deliver(SingleExtendedFilter::new(id, rtr), 2, registers)
 }
 
 #[no_mangle]
@@ -110,9 +106,6 @@ pub extern "C" fn chherbolat_single_extended_filter_new_from_code_mask(
     ensures { λ r. ⌜ r ≡ answerOf (delivering 8 4 (now (registers .entry)) (codeMaskOf singleExtended (bothWithin true «id_code» «id_mask») («id_code» ∷ bit «rtr_code» ∷ []) («id_mask» ∷ bit «rtr_mask» ∷ []))) ⌝ }
     ensures { λ _. ⌜ now (registers .exit) ≡ deliveryLeaves 8 4 (now (registers .entry)) (codeMaskOf singleExtended (bothWithin true «id_code» «id_mask») («id_code» ∷ bit «rtr_code» ∷ []) («id_mask» ∷ bit «rtr_mask» ∷ [])) ⌝ }
 {
-    if registers.len() != 8 {
-        return answers::wrong_length(4);
-    }
     deliver(
         SingleExtendedFilter::new_from_code_mask(
             ExtendedId(id_code),
@@ -120,6 +113,7 @@ pub extern "C" fn chherbolat_single_extended_filter_new_from_code_mask(
             rtr_code,
             rtr_mask,
         ),
+        4,
         registers,
     )
 }
@@ -136,11 +130,9 @@ pub extern "C" fn chherbolat_dual_standard_filter_new(
     ensures { λ r. ⌜ r ≡ answerOf (delivering 8 5 (now (registers .entry)) (compileOf dualStandard (now («first_id» .entry) ∷ now («first_rtr» .entry) ∷ now («first_payload» .entry) ∷ now («second_id» .entry) ∷ now («second_rtr» .entry) ∷ []))) ⌝ }
     ensures { λ _. ⌜ now (registers .exit) ≡ deliveryLeaves 8 5 (now (registers .entry)) (compileOf dualStandard (now («first_id» .entry) ∷ now («first_rtr» .entry) ∷ now («first_payload» .entry) ∷ now («second_id» .entry) ∷ now («second_rtr» .entry) ∷ [])) ⌝ }
 {
-    if registers.len() != 8 {
-        return answers::wrong_length(5);
-    }
     deliver(
         DualStandardFilter::new(first_id, first_rtr, first_payload, second_id, second_rtr),
+        5,
         registers,
     )
 }
@@ -162,9 +154,6 @@ pub extern "C" fn chherbolat_dual_standard_filter_new_from_code_mask(
     ensures { λ r. ⌜ r ≡ answerOf (delivering 8 10 (now (registers .entry)) (codeMaskOf dualStandard (bothWithin false «first_id_code» «first_id_mask» && bothWithin false «second_id_code» «second_id_mask») («first_id_code» ∷ bit «first_rtr_code» ∷ «first_payload_code» ∷ «second_id_code» ∷ bit «second_rtr_code» ∷ []) («first_id_mask» ∷ bit «first_rtr_mask» ∷ «first_payload_mask» ∷ «second_id_mask» ∷ bit «second_rtr_mask» ∷ []))) ⌝ }
     ensures { λ _. ⌜ now (registers .exit) ≡ deliveryLeaves 8 10 (now (registers .entry)) (codeMaskOf dualStandard (bothWithin false «first_id_code» «first_id_mask» && bothWithin false «second_id_code» «second_id_mask») («first_id_code» ∷ bit «first_rtr_code» ∷ «first_payload_code» ∷ «second_id_code» ∷ bit «second_rtr_code» ∷ []) («first_id_mask» ∷ bit «first_rtr_mask» ∷ «first_payload_mask» ∷ «second_id_mask» ∷ bit «second_rtr_mask» ∷ [])) ⌝ }
 {
-    if registers.len() != 8 {
-        return answers::wrong_length(10);
-    }
     deliver(
         DualStandardFilter::new_from_code_mask(
             StandardId(first_id_code),
@@ -178,6 +167,7 @@ pub extern "C" fn chherbolat_dual_standard_filter_new_from_code_mask(
             second_rtr_code,
             second_rtr_mask,
         ),
+        10,
         registers,
     )
 }
@@ -191,10 +181,7 @@ pub extern "C" fn chherbolat_dual_extended_filter_new(
     ensures { λ r. ⌜ r ≡ answerOf (delivering 8 2 (now (registers .entry)) (compileOf dualExtended (now (first .entry) ∷ now (second .entry) ∷ []))) ⌝ }
     ensures { λ _. ⌜ now (registers .exit) ≡ deliveryLeaves 8 2 (now (registers .entry)) (compileOf dualExtended (now (first .entry) ∷ now (second .entry) ∷ [])) ⌝ }
 {
-    if registers.len() != 8 {
-        return answers::wrong_length(2);
-    }
-    deliver(DualExtendedFilter::new(first, second), registers)
+    deliver(DualExtendedFilter::new(first, second), 2, registers)
 }
 
 #[no_mangle]
@@ -208,11 +195,9 @@ pub extern "C" fn chherbolat_dual_extended_filter_new_from_code_mask(
     ensures { λ r. ⌜ r ≡ answerOf (delivering 8 4 (now (registers .entry)) (codeMaskOf dualExtended true («first_code» ∷ «second_code» ∷ []) («first_mask» ∷ «second_mask» ∷ []))) ⌝ }
     ensures { λ _. ⌜ now (registers .exit) ≡ deliveryLeaves 8 4 (now (registers .entry)) (codeMaskOf dualExtended true («first_code» ∷ «second_code» ∷ []) («first_mask» ∷ «second_mask» ∷ [])) ⌝ }
 {
-    if registers.len() != 8 {
-        return answers::wrong_length(4);
-    }
     deliver(
         DualExtendedFilter::new_from_code_mask(first_code, second_code, first_mask, second_mask),
+        4,
         registers,
     )
 }
