@@ -1,30 +1,8 @@
 // Reads a frame file on standard input, at most one byte more than the longest, and prints the report on it.
+use input::Input;
 use libc::STDERR_FILENO;
-use libc::STDIN_FILENO;
 use libc::STDOUT_FILENO;
 use report::Reporting;
-
-enum Input {
-    Read(usize),
-    Failed,
-}
-
-// Standard input up to its end, or as much as the buffer holds.
-fn read_input(buffer: &mut [u8]) -> Input {
-    let mut done: usize = 0;
-    while done < buffer.len() {
-        let got = libc::read(STDIN_FILENO, &mut buffer[done..]);
-        if got < 0 {
-            return Input::Failed;
-        }
-        let more = io::count(got, &buffer[done..]);
-        if more == 0 {
-            return Input::Read(done);
-        }
-        done += more;
-    }
-    Input::Read(done)
-}
 
 // Text of the longest report is shorter than the buffer: 4,096 lines of at most 22 characters, and the last.
 fn print_report(file: &[u8]) {
@@ -43,12 +21,8 @@ fn print_report(file: &[u8]) {
 
 fn main() {
     let mut file = [0u8; 53396];
-    match read_input(&mut file) {
-        Input::Read(length) => {
-            if length <= 53396 {
-                print_report(&file[..length]);
-            }
-        }
+    match input::read_input(&mut file) {
+        Input::Read(length) => print_report(&file[..length]),
         Input::Failed => {
             io::write_all(STDERR_FILENO, b"accept: standard input can't be read\n");
         }

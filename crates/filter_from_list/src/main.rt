@@ -1,29 +1,7 @@
 // Reads a list of identifiers on standard input, at most one byte more than the longest, and prints its filter. The argument is the format.
+use input::Input;
 use libc::STDERR_FILENO;
-use libc::STDIN_FILENO;
 use libc::STDOUT_FILENO;
-
-enum Input {
-    Read(usize),
-    Failed,
-}
-
-// Standard input up to its end, or as much as the buffer holds.
-fn read_input(buffer: &mut [u8]) -> Input {
-    let mut done: usize = 0;
-    while done < buffer.len() {
-        let got = libc::read(STDIN_FILENO, &mut buffer[done..]);
-        if got < 0 {
-            return Input::Failed;
-        }
-        let more = io::count(got, &buffer[done..]);
-        if more == 0 {
-            return Input::Read(done);
-        }
-        done += more;
-    }
-    Input::Read(done)
-}
 
 // No text is longer than the buffer.
 fn print_text(extended: bool, list: &[u8]) {
@@ -39,12 +17,8 @@ fn print_text(extended: bool, list: &[u8]) {
 
 fn print_filter(extended: bool) {
     let mut list = [0u8; 65537];
-    match read_input(&mut list) {
-        Input::Read(length) => {
-            if length <= 65537 {
-                print_text(extended, &list[..length]);
-            }
-        }
+    match input::read_input(&mut list) {
+        Input::Read(length) => print_text(extended, &list[..length]),
         Input::Failed => {
             io::write_all(STDERR_FILENO, b"standard input can't be read\n");
         }

@@ -1,7 +1,4 @@
 -- `accept::main` is safe: what is reported on is a part of the buffer. Assumes nothing.
-use mathlib.Core.Path.{sym}
-use native.Mathlib.Omega.{arith}
-use lib.Seq.{length-take-le}
 use borrow.Author.Needs.{needs}
 use Rattle.accept.proofs.main.Statement.{statement}
 use Rattle.accept.proofs.main.Tie as tie
@@ -16,10 +13,10 @@ enum-known-length : tie.Need-enum-known-length
 enum-known-length c = search needs
 
 array-share-prefix-file : tie.Need-array-share-prefix-file
-array-share-prefix-file c = search needs
+array-share-prefix-file c = let within = rw (c .before .length .given .1) at (c .before .before .before .before .read-input .ensures) in within .0
 
 slice-aggregate-print-report : tie.Need-slice-aggregate-print-report
-slice-aggregate-print-report c = sym (length-take-le (c .before .before .before .length .given .0 .0) (c .before .before .before .before .before .before .read-input .last .0) (omega (arith, c .before .before .before .before .before .before .read-input .kept .0, c .before .if1 .taken)))
+slice-aggregate-print-report c = let within = rw (c .before .before .length .given .1) at (c .before .before .before .before .before .read-input .ensures) in within .1
 
 print-report-requires : tie.Need-print-report-requires
 print-report-requires c κs = search needs
@@ -39,9 +36,6 @@ returns c = search needs
 returns-2 : tie.Need-returns-2
 returns-2 c = search needs
 
-returns-3 : tie.Need-returns-3
-returns-3 c = search needs
-
 pub main-spec : {M : Type 1} → statement M
 main-spec =
     tie.close
@@ -56,5 +50,4 @@ main-spec =
     slice-aggregate-write-all
     write-all-requires
     returns
-    returns-2
-    returns-3)
+    returns-2)

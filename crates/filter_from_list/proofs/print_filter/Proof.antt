@@ -1,7 +1,4 @@
 -- `filter_from_list::print_filter` is safe: what is read is a part of the buffer. Assumes nothing.
-use mathlib.Core.Path.{sym}
-use lib.Seq.{length-take-le}
-use native.Mathlib.Omega.{arith}
 use borrow.Author.Needs.{needs}
 use Rattle.filter_from_list.proofs.print_filter.Statement.{statement}
 use Rattle.filter_from_list.proofs.print_filter.Tie as tie
@@ -16,10 +13,10 @@ enum-known-length : tie.Need-enum-known-length
 enum-known-length c = search needs
 
 array-share-prefix-list : tie.Need-array-share-prefix-list
-array-share-prefix-list c = search needs
+array-share-prefix-list c = let within = rw (c .before .length .given .1) at (c .before .before .before .before .read-input .ensures) in within .0
 
 slice-aggregate-print-text : tie.Need-slice-aggregate-print-text
-slice-aggregate-print-text c = sym (length-take-le (c .before .before .before .length .given .0 .0) (c .before .before .before .before .before .before .read-input .last .0) (omega (arith, c .before .before .before .before .before .before .read-input .kept .0, c .before .if1 .taken)))
+slice-aggregate-print-text c = let within = rw (c .before .before .length .given .1) at (c .before .before .before .before .before .read-input .ensures) in within .1
 
 print-text-requires : tie.Need-print-text-requires
 print-text-requires c κs = search needs
@@ -39,9 +36,6 @@ returns c = search needs
 returns-2 : tie.Need-returns-2
 returns-2 c = search needs
 
-returns-3 : tie.Need-returns-3
-returns-3 c = search needs
-
 pub print-filter-spec : {M : Type 1} → statement M
 print-filter-spec =
     tie.close
@@ -56,5 +50,4 @@ print-filter-spec =
     slice-aggregate-write-all
     write-all-requires
     returns
-    returns-2
-    returns-3)
+    returns-2)

@@ -1,11 +1,17 @@
--- `filter_from_list::read_input` ends, by the room that is left, which each read that goes on makes smaller. Assumes nothing.
-use lib.ListN.{length-take, length-drop, length}
-use mathlib.Core.Path.{_≡_, refl, _∙_}
-use Prim.Native.Nat.{_≤_, _-_}
+-- `input::read_input` meets its contract, and ends by the room that is left, which each read that goes on makes smaller. Assumes nothing.
+use Prim.Native.Nat.{ℕ, _≤_, _-_}
+use mathlib.Core.Path.{_≡_, refl, sym, _∙_}
+use mathlib.Core.List.{List}
+use lib.ListN.{length, length-take, length-drop}
+use lib.Seq.{length-take-le}
 use native.Mathlib.Omega.{arith}
 use borrow.Author.Needs.{needs}
-use Rattle.filter_from_list.proofs.read_input.Statement.{statement}
-use Rattle.filter_from_list.proofs.read_input.Tie as tie
+use Rattle.io.specs.Counts.{Counts}
+use Rattle.input.proofs.read_input.Statement.{statement}
+use Rattle.input.proofs.read_input.Tie as tie
+
+counts : (n : ℕ) (buffer : List ℕ) → n ≤ length buffer → Counts n buffer
+counts n buffer h = (h, sym (length-take-le n buffer h))
 
 abbrev Inv-loop : tie.InvT-loop
 Inv-loop buffer₀ done₀ buffer done = (done ≤ length buffer) × (length buffer ≡ length buffer₀)
@@ -50,7 +56,7 @@ same-length-2 : tie.Need-same-length-2 Inv-loop μ-loop
 same-length-2 c = c .before .before .before .before .before .before .buffer .given .1 ∙ c .before .before .before .before .before .before .before .before .before .before .loop .inv .1
 
 returns-2 : tie.Need-returns-2 Inv-loop μ-loop
-returns-2 c = tt
+returns-2 c = counts _ _ (omega (arith, c .before .before .before .before .before .before .buffer .given .1, c .before .before .before .before .before .before .before .before .before .before .loop .inv .0))
 
 add-done : tie.Need-add-done Inv-loop μ-loop
 add-done c = let fits = simp (length-take, length-drop) at (c .before .count .ensures .0 .0) in omega (arith, fits, c .before .before .before .before .before .before .buffer .given .1, c .before .before .before .before .before .before .before .before .before .before .loop .inv .0, c .before .before .before .before .before .before .before .before .before .before .loop .inv .1, c .before .before .before .before .before .before .before .before .before .loop-test .taken)
@@ -65,7 +71,7 @@ same-length-3 : tie.Need-same-length-3 Inv-loop μ-loop
 same-length-3 c = c .before .loop .inv .1
 
 returns-3 : tie.Need-returns-3 Inv-loop μ-loop
-returns-3 c = tt
+returns-3 c = counts _ _ (c .before .loop .inv .0)
 
 pub read-input-spec : {M : Type 1} → statement M
 read-input-spec =
