@@ -12,14 +12,9 @@ use Rattle.text.specs.Decimal.{decimal}
 use Rattle.text.proofs.Decimal.{decimal-long}
 use Rattle.filter_text.specs.Text.{hexDigit, hexOf, patternText, registersText, identifiersText, linesText, lineText, faultText}
 
--- Texts put on a page one behind another, and numbers in hexadecimal. Assumes nothing.
-
 -- one text behind another
 pub then-put : (a b page was now : List ℕ) (at : ℕ) → at ≡ length a → was ≡ laidFirst a page → now ≡ laid at b was → now ≡ laidFirst (a ++ b) page
 then-put a b page was now at e w n = n ∙ ap (laid at b) w ∙ laid-then at 0 a b page (omega (arith, e)) (omega arith)
-
-pub then-set : (a page was : List ℕ) (at x : ℕ) → at ≡ length a → was ≡ laidFirst a page → at < length page → set was at x ≡ laidFirst (a ++ (x ∷ [])) page
-then-set a page was at x e w h = ap (λ (l : List ℕ). set l at x) w ∙ set-then at x 0 a page (omega (arith, e)) h
 
 -- ---- bytes in hexadecimal
 hex-more : (a : List ℕ) (byte : ℕ) → hexOf (a ++ (byte ∷ [])) ≡ (hexOf a ++ (hexDigit (byte / 16) ∷ [])) ++ (hexDigit (byte % 16) ∷ [])

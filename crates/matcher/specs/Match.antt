@@ -1,7 +1,7 @@
 -- Which frames a filter accepts, position by position over the one table.
 -- Source: ESP32-C3 manual, TWAI chapter, acceptance filter; the outline, "The matcher".
 use Prim.Native.Nat.{ℕ}
-use mathlib.Core.Bool.{Bool, true, false, _&&_, _||_}
+use mathlib.Core.Bool.{Bool, true, _&&_, _||_}
 use mathlib.Core.List.{List, [], _∷_}
 use lib.Dec.{eqb}
 use lib.ListN.{take, drop}

@@ -33,7 +33,7 @@ pub fn low_byte(word: u32) -> u8
     (word % 256) as u8
 }
 
-// Zeros where there are fewer.
+// Thirteen bytes from a place on; zeros where there are fewer.
 pub fn thirteen(bytes: &[u8], at: usize) -> [u8; 13]
     ensures { λ r. ⌜ r ≡ partOrZeros 13 at (now (bytes .entry)) ⌝ }
 {

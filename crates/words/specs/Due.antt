@@ -1,6 +1,6 @@
 -- What the words of a start call for, and what a finish answers.
 -- Source: the outline, "The box", steps 1, 2 and 4, and "Decisions"; the ESP32-C3 manual, TWAI chapter, interrupt and status registers.
-use Prim.Native.Nat.{ℕ, _+_, _-_, _^_}
+use Prim.Native.Nat.{_+_, _-_, _^_}
 use mathlib.Core.Bool.{Bool, _&&_, _||_}
 use lib.Bits.{bitAnd, bitOr}
 use Rattle.laws.specs.Bits.{isSet}
