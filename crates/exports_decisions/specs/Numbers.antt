@@ -24,20 +24,3 @@ decided d = answerNumber (d .0) + actionNumber (d .1) * 256
 
 abbrev pub polled : Answer × Action × Bool → ℕ
 polled d = decided (d .0, d .1) + bit (d .2) * 65536
-
--- the command that goes with each answer of transmit, and of receive; a poll's pending goes with two
-abbrev pub withTransmit : Answer → Action
-withTransmit done = writeFrame
-withTransmit wouldBlock = nothing
-withTransmit pending = nothing
-withTransmit busOff = nothing
-withTransmit transmissionAborted = abort
-withTransmit overrun = nothing
-
-abbrev pub withReceive : Answer → Action
-withReceive done = readAndRelease
-withReceive wouldBlock = nothing
-withReceive pending = nothing
-withReceive busOff = nothing
-withReceive transmissionAborted = nothing
-withReceive overrun = nothing

@@ -8,7 +8,8 @@ use Rattle.answers.specs.Answers.{answerOf}
 use Rattle.decisions.specs.Status.{receiveReady, inBusOff, missed}
 use Rattle.decisions.specs.Answers.{Answer, Action, busOff, done, wouldBlock, nothing, overrun, readAndRelease}
 use Rattle.decisions.specs.Decisions.{receiveOf}
-use Rattle.exports_decisions.specs.Numbers.{decided, withReceive}
+use Rattle.exports_decisions.specs.Numbers.{decided}
+use Rattle.exports_decisions.specs.Commands.{withReceive}
 use Rattle.exports_decisions.proofs.chherbolat_receive.Statement.{statement}
 use Rattle.exports_decisions.proofs.chherbolat_receive.Tie as tie
 

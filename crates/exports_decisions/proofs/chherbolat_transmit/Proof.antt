@@ -8,7 +8,8 @@ use Rattle.answers.specs.Answers.{answerOf}
 use Rattle.decisions.specs.Status.{transmitFree, inBusOff}
 use Rattle.decisions.specs.Answers.{Answer, Action, busOff, done, wouldBlock, nothing, writeFrame}
 use Rattle.decisions.specs.Decisions.{transmitOf, notFree}
-use Rattle.exports_decisions.specs.Numbers.{decided, withTransmit}
+use Rattle.exports_decisions.specs.Numbers.{decided}
+use Rattle.exports_decisions.specs.Commands.{withTransmit}
 use Rattle.exports_decisions.proofs.chherbolat_transmit.Statement.{statement}
 use Rattle.exports_decisions.proofs.chherbolat_transmit.Tie as tie
 
