@@ -13,9 +13,10 @@ use Rattle.fifo.specs.Ring.{Outcome, notRecorded, marked, stored}
 use Rattle.words.specs.declared.Finished.{Finished}
 use Rattle.receive_box.specs.declared.ReceiveBox.{ReceiveBox}
 use Rattle.receive_box.specs.Calls.{arriveOf, takeOf}
-use Rattle.drain_steps.specs.declared.Command.{Command}
-use Rattle.drain_steps.specs.declared.Command.the-variants as command
-use Rattle.drain_steps.specs.Step.{Told, done, lost, finished, stepOf}
+use Rattle.step_answers.specs.declared.Command.{Command}
+use Rattle.step_answers.specs.declared.Command.the-variants as command
+use Rattle.step_answers.specs.Answers.{Told, done, lost, finished}
+use Rattle.drain_steps.specs.Step.{stepOf}
 use Rattle.drain.specs.Start.{startOf}
 use Rattle.drain.specs.Run.{Call, arrives, takes, starts, steps, after}
 use Rattle.box_script.specs.State.{recordBytes, stateBytes}

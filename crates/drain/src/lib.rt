@@ -1,12 +1,13 @@
 // A drain of the box, by value: its start, and the step that comes next.
 ghost use mathlib.Core.Path.{_≡_};
 ghost use Rattle.receive_box.specs.Rules.{isIdle};
-ghost use Rattle.drain_steps.specs.Step.{firstPhase, steppedSaid, stepOf};
+ghost use Rattle.step_answers.specs.Answers.{steppedSaid};
+ghost use Rattle.drain_steps.specs.Step.{firstPhase, stepOf};
 ghost use Rattle.drain.specs.Start.{startedSaid, startOf};
-use drain_steps::Stepped;
 use receive_box::Phase;
 use receive_box::ReceiveBox;
 use refusals::Refusal;
+use step_answers::Stepped;
 use words::Words;
 
 pub enum Starting {
@@ -79,7 +80,7 @@ pub fn step(state: ReceiveBox) -> Stepped
     if state.valid() {
         let phase = state.phase;
         return match phase {
-            Phase::Idle => drain_steps::refused(Refusal::NoDrainRuns, state),
+            Phase::Idle => step_answers::refused(Refusal::NoDrainRuns, state),
             Phase::Notice => drain_steps::notice_step(state),
             Phase::Look => drain_steps::look_step(state),
             Phase::Miss => drain_steps::miss_step(state),
@@ -89,5 +90,5 @@ pub fn step(state: ReceiveBox) -> Stepped
             Phase::Finish => drain_steps::finish_step(state),
         };
     }
-    drain_steps::refused(Refusal::BrokenState, state)
+    step_answers::refused(Refusal::BrokenState, state)
 }

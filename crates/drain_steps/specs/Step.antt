@@ -3,60 +3,27 @@
 use mathlib.Core.Bool.{Bool, true, false, cond}
 use lib.Dec.{eqb}
 use Rattle.laws.specs.Said.{Said, refuses, gives}
-use Rattle.refusals.specs.Table.{refusalSaid}
-use Rattle.refusals.specs.declared.Refusal.{Refusal}
 use Rattle.records.specs.declared.Record.{Record}
 use Rattle.records.specs.Blank.{blank}
 use Rattle.queue.specs.declared.Queue.{Queue}
 use Rattle.queue.specs.Ring.{queueLimit, offerOf}
 use Rattle.fifo.specs.Ring.{frontOf, released}
 use Rattle.words.specs.declared.Words.{Words}
-use Rattle.words.specs.declared.Finished.{Finished}
 use Rattle.words.specs.Due.{receiveDue, noticeDue, finishOf}
 use Rattle.receive_box.specs.declared.Phase as P
 use Rattle.receive_box.specs.declared.Phase.the-variants as phase
 use Rattle.receive_box.specs.declared.ReceiveBox.{ReceiveBox}
 use Rattle.receive_box.specs.Rules.{recordOf, busOff, boxOk}
 use Rattle.receive_box.specs.Calls.{withOf}
-use Rattle.drain_steps.specs.declared.Command.{Command}
-use Rattle.drain_steps.specs.declared.Command.the-variants as command
-use Rattle.drain_steps.specs.declared.Stepping.{Stepping}
-use Rattle.drain_steps.specs.declared.Stepping.the-variants as stepping
-use Rattle.drain_steps.specs.declared.StepAnswer.{StepAnswer}
-use Rattle.drain_steps.specs.declared.Stepped.{Stepped}
-
--- what a step tells: no record lost, one lost, or the drain's end with its wakes and enable word
-pub data Told : Type 0 where
-  done lost : Told
-  finished : Finished → Told
-
--- with its command, and its lost record (blank where there is none)
-abbrev pub StepSaid : Type 0
-StepSaid = Said Told × Command × Record
-
-abbrev pub steppingSaid : Stepping → Said Told
-steppingSaid stepping.Done = gives done
-steppingSaid stepping.Lost = gives lost
-steppingSaid (stepping.Finished f) = gives (finished f)
-steppingSaid (stepping.Refused f) = refusalSaid f
-
-abbrev pub stepSaid : StepAnswer → StepSaid
-stepSaid a = (steppingSaid (a .stepping), a .command, a .lost)
-
-abbrev pub steppedSaid : Stepped → StepSaid × ReceiveBox
-steppedSaid r = (stepSaid (r .answer), r .state)
+use Rattle.step_answers.specs.declared.Command.{Command}
+use Rattle.step_answers.specs.declared.Command.the-variants as command
+use Rattle.step_answers.specs.Answers.{lost, finished, StepSaid, quietly}
 
 abbrev pub atPhase : ReceiveBox → P.Phase → ReceiveBox
 atPhase g p = withOf g (g .fifo) (g .queue) p (g .held)
 
 abbrev pub holding : ReceiveBox → Record → ReceiveBox
 holding g x = withOf g (g .fifo) (g .queue) phase.Release x
-
-abbrev pub quietly : Command → ReceiveBox → StepSaid × ReceiveBox
-quietly c g = ((gives done, c, blank), g)
-
-abbrev pub refusedStep : Refusal → ReceiveBox → StepSaid × ReceiveBox
-refusedStep f g = ((refusalSaid f, command.Nothing, blank), g)
 
 -- an offer: stored, or lost by a full queue and named
 abbrev pub offered : Said Bool → Queue → ReceiveBox → Record → Command → P.Phase → P.Phase → StepSaid × ReceiveBox

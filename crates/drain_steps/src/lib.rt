@@ -2,7 +2,8 @@
 ghost use mathlib.Core.Path.{_≡_};
 ghost use Rattle.receive_box.specs.Rules.{busOff};
 ghost use Rattle.receive_box.specs.Calls.{withOf};
-ghost use Rattle.drain_steps.specs.Step.{steppingSaid, steppedSaid, atPhase, quietly, refusedStep, holding, offering, afterNotice, noticeStep, lookStep, missStep, copyStep, releaseStep, offerStep, finishStep};
+ghost use Rattle.step_answers.specs.Answers.{steppedSaid};
+ghost use Rattle.drain_steps.specs.Step.{atPhase, holding, offering, afterNotice, noticeStep, lookStep, missStep, copyStep, releaseStep, offerStep, finishStep};
 use queue::Offering;
 use queue::Queue;
 use receive_box::Phase;
@@ -10,34 +11,10 @@ use receive_box::ReceiveBox;
 use records::Record;
 use records::RecordError;
 use records::RecordKind;
-use refusals::Refusal;
-use words::Finished;
+use step_answers::Command;
+use step_answers::Stepped;
+use step_answers::Stepping;
 use words::Words;
-
-pub enum Command {
-    Nothing,
-    Abort,
-    Release,
-}
-
-pub enum Stepping {
-    Done,
-    Lost,
-    Finished(Finished),
-    Refused(Refusal),
-}
-
-// The lost record stands beside the enum: blank where none is lost.
-pub struct StepAnswer {
-    pub stepping: Stepping,
-    pub command: Command,
-    pub lost: Record,
-}
-
-pub struct Stepped {
-    pub answer: StepAnswer,
-    pub state: ReceiveBox,
-}
 
 fn bus_off() -> Record
     ensures { λ r. ⌜ r ≡ busOff ⌝ }
@@ -46,34 +23,6 @@ fn bus_off() -> Record
         kind: RecordKind::Error(RecordError::BusOff),
         bytes: [0; 13],
     }
-}
-
-fn told(stepping: Stepping, command: Command, lost: Record, state: ReceiveBox) -> Stepped
-    ensures { λ r. ⌜ steppedSaid r ≡ ((steppingSaid stepping, command, lost), state) ⌝ }
-{
-    let answer = StepAnswer {
-        stepping: stepping,
-        command: command,
-        lost: lost,
-    };
-    Stepped {
-        answer: answer,
-        state: state,
-    }
-}
-
-// A step that loses nothing and does not end the drain.
-fn quiet(command: Command, state: ReceiveBox) -> Stepped
-    ensures { λ r. ⌜ steppedSaid r ≡ quietly command state ⌝ }
-{
-    told(Stepping::Done, command, Record::blank(), state)
-}
-
-pub fn refused(refusal: Refusal, state: ReceiveBox) -> Stepped
-    ensures { λ r. ⌜ steppedSaid r ≡ refusedStep refusal state ⌝ }
-{
-    let none = Record::blank();
-    told(Stepping::Refused(refusal), Command::Nothing, none, state)
 }
 
 fn with_queue(state: ReceiveBox, queue: Queue, phase: Phase) -> ReceiveBox
@@ -101,14 +50,14 @@ fn offer_record(
     let after = out.state;
     let answer = out.answer;
     match answer {
-        Offering::Stored => quiet(command, with_queue(state, after, stored)),
-        Offering::Lost => told(
+        Offering::Stored => step_answers::quiet(command, with_queue(state, after, stored)),
+        Offering::Lost => step_answers::told(
             Stepping::Lost,
             command,
             offered,
             with_queue(state, after, lost),
         ),
-        Offering::Refused(refusal) => refused(refusal, state),
+        Offering::Refused(refusal) => step_answers::refused(refusal, state),
     }
 }
 
@@ -144,9 +93,9 @@ pub fn look_step(state: ReceiveBox) -> Stepped
 {
     let fifo = state.fifo;
     if fifo.count == 0 {
-        return quiet(Command::Nothing, at_phase(state, Phase::Finish));
+        return step_answers::quiet(Command::Nothing, at_phase(state, Phase::Finish));
     }
-    quiet(Command::Nothing, at_phase(state, Phase::Miss))
+    step_answers::quiet(Command::Nothing, at_phase(state, Phase::Miss))
 }
 
 // A record is held, and the front is released next.
@@ -166,12 +115,12 @@ pub fn miss_step(state: ReceiveBox) -> Stepped
     let fifo = state.fifo;
     let front = fifo.front();
     if front.mark {
-        return quiet(
+        return step_answers::quiet(
             Command::Nothing,
             holding(state, receive_box::record_of(front)),
         );
     }
-    quiet(Command::Nothing, at_phase(state, Phase::Copy))
+    step_answers::quiet(Command::Nothing, at_phase(state, Phase::Copy))
 }
 
 pub fn copy_step(state: ReceiveBox) -> Stepped
@@ -179,7 +128,7 @@ pub fn copy_step(state: ReceiveBox) -> Stepped
 {
     let fifo = state.fifo;
     let copy = receive_box::record_of(fifo.front());
-    quiet(Command::Nothing, holding(state, copy))
+    step_answers::quiet(Command::Nothing, holding(state, copy))
 }
 
 pub fn release_step(state: ReceiveBox) -> Stepped
@@ -192,7 +141,7 @@ pub fn release_step(state: ReceiveBox) -> Stepped
         phase: Phase::Offer,
         ..state
     };
-    quiet(Command::Release, next)
+    step_answers::quiet(Command::Release, next)
 }
 
 pub fn offer_step(state: ReceiveBox) -> Stepped
@@ -209,5 +158,5 @@ pub fn finish_step(state: ReceiveBox) -> Stepped
     let finished = words.finish();
     let none = Record::blank();
     let idle = at_phase(state, Phase::Idle);
-    told(Stepping::Finished(finished), Command::Nothing, none, idle)
+    step_answers::told(Stepping::Finished(finished), Command::Nothing, none, idle)
 }

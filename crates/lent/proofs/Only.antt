@@ -5,8 +5,8 @@ use Rattle.receive_box.specs.declared.ReceiveBox.{ReceiveBox}
 use Rattle.receive_box.specs.declared.Arrived.{Arrived}
 use Rattle.receive_box.specs.declared.Taken.{Taken}
 use Rattle.receive_box.proofs.Only.{only-arrived, only-taken}
-use Rattle.drain_steps.specs.declared.Stepped.{Stepped}
-use Rattle.drain_steps.proofs.Only.{only-stepped}
+use Rattle.step_answers.specs.declared.Stepped.{Stepped}
+use Rattle.step_answers.proofs.Only.{only-stepped}
 use Rattle.drain.specs.declared.Started.{Started}
 use Rattle.drain.specs.Run.{Call, arrives, takes, starts, steps}
 use Rattle.drain.proofs.Only.{only-started}

@@ -10,8 +10,9 @@ use Rattle.words.specs.declared.Words.{Words}
 use Rattle.receive_box.specs.declared.ReceiveBox.{ReceiveBox}
 use Rattle.receive_box.specs.declared.Arriving.{Arriving}
 use Rattle.receive_box.specs.Calls.{arrivingSaid, arriveOf, takeOf}
-use Rattle.drain_steps.specs.declared.StepAnswer.{StepAnswer}
-use Rattle.drain_steps.specs.Step.{stepSaid, stepOf}
+use Rattle.step_answers.specs.declared.StepAnswer.{StepAnswer}
+use Rattle.step_answers.specs.Answers.{stepSaid}
+use Rattle.drain_steps.specs.Step.{stepOf}
 use Rattle.drain.specs.declared.Starting.{Starting}
 use Rattle.drain.specs.Start.{startingSaid, startOf}
 use Rattle.drain.specs.Run.{Call, arrives, takes, starts, steps, refusedWith}

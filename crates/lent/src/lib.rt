@@ -1,10 +1,10 @@
 // The box lent by its caller: each call makes the call by value, and stores the box that comes of it.
 ghost use Rattle.lent.specs.Calls.{arriveLent, takeLent, startLent, stepLent};
 use drain::Starting;
-use drain_steps::StepAnswer;
 use queue::TakeAnswer;
 use receive_box::Arriving;
 use receive_box::ReceiveBox;
+use step_answers::StepAnswer;
 use words::Words;
 
 // A frame arrives at the controller.

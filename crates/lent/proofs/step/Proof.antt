@@ -5,12 +5,13 @@ use denote.Struct.Laws as LL
 use denote.Triple.Spec.{tripleOf}
 use denote.Triple.Table.{entered, cited}
 use Rattle.receive_box.specs.declared.ReceiveBox.{ReceiveBox}
-use Rattle.drain_steps.specs.declared.Stepped.{Stepped}
-use Rattle.drain_steps.specs.Step.{steppedSaid, stepOf}
-use Rattle.drain_steps.proofs.StepAnswer as A
-use Rattle.drain_steps.proofs.StepAnswer.Laws as A′
-use Rattle.drain_steps.proofs.Stepped as R
-use Rattle.drain_steps.proofs.Stepped.Laws as R′
+use Rattle.step_answers.specs.declared.Stepped.{Stepped}
+use Rattle.step_answers.specs.Answers.{steppedSaid}
+use Rattle.drain_steps.specs.Step.{stepOf}
+use Rattle.step_answers.proofs.StepAnswer as A
+use Rattle.step_answers.proofs.StepAnswer.Laws as A′
+use Rattle.step_answers.proofs.Stepped as R
+use Rattle.step_answers.proofs.Stepped.Laws as R′
 use Rattle.drain.proofs.step.Symbol as g-def
 use Rattle.drain.proofs.step.Symbol.{name as #g}
 use Rattle.drain.proofs.step.Met as g-thm
