@@ -2,11 +2,13 @@
 //! archive may be missing.
 use std::{env, path::Path};
 
-const ARCHIVES: [&str; 9] = [
+const ARCHIVES: [&str; 11] = [
     "libexports_identifiers.a",
     "libexports_building.a",
+    "libexports_info.a",
     "libexports_frames.a",
     "libexports_filters.a",
+    "libexports_masks.a",
     "libexports_list.a",
     "libexports_matcher.a",
     "libexports_files.a",

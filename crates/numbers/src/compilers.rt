@@ -106,7 +106,7 @@ pub(crate) fn by_patterns(bytes: &[u8]) -> bool {
 
 fn single_standard(bytes: &[u8]) -> bool {
     let mut registers = [0xA5u8; 8];
-    let answer = exports_filters::chherbolat_single_standard_filter_new_from_code_mask(
+    let answer = exports_masks::chherbolat_single_standard_filter_new_from_code_mask(
         short(bytes, 1),
         short(bytes, 3),
         flag(bytes, 5),
@@ -122,7 +122,7 @@ fn single_standard(bytes: &[u8]) -> bool {
 
 fn single_extended(bytes: &[u8]) -> bool {
     let mut registers = [0xA5u8; 8];
-    let answer = exports_filters::chherbolat_single_extended_filter_new_from_code_mask(
+    let answer = exports_masks::chherbolat_single_extended_filter_new_from_code_mask(
         long(bytes, 1),
         long(bytes, 5),
         flag(bytes, 9),
@@ -134,7 +134,7 @@ fn single_extended(bytes: &[u8]) -> bool {
 
 fn dual_standard(bytes: &[u8]) -> bool {
     let mut registers = [0xA5u8; 8];
-    let answer = exports_filters::chherbolat_dual_standard_filter_new_from_code_mask(
+    let answer = exports_masks::chherbolat_dual_standard_filter_new_from_code_mask(
         short(bytes, 1),
         short(bytes, 3),
         flag(bytes, 5),
@@ -152,7 +152,7 @@ fn dual_standard(bytes: &[u8]) -> bool {
 
 fn dual_extended(bytes: &[u8]) -> bool {
     let mut registers = [0xA5u8; 8];
-    let answer = exports_filters::chherbolat_dual_extended_filter_new_from_code_mask(
+    let answer = exports_masks::chherbolat_dual_extended_filter_new_from_code_mask(
         short(bytes, 1),
         short(bytes, 3),
         short(bytes, 5),

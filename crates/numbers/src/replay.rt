@@ -100,27 +100,27 @@ fn new(own: bool, bytes: &[u8]) -> bool {
 fn read_numbers(bytes: &[u8]) -> bool {
     let frame = text::part(bytes, 0, 13);
     given(
-        exports_frames::chherbolat_is_extended_format(frame),
+        exports_info::chherbolat_is_extended_format(frame),
         text::number(bytes, 13, 1),
     )
         && given(
-            exports_frames::chherbolat_is_remote_request(frame),
+            exports_info::chherbolat_is_remote_request(frame),
             text::number(bytes, 14, 1),
         )
         && given(
-            exports_frames::chherbolat_is_self_reception(frame),
+            exports_info::chherbolat_is_self_reception(frame),
             text::number(bytes, 15, 1),
         )
         && given(
-            exports_frames::chherbolat_data_length_code(frame),
+            exports_info::chherbolat_data_length_code(frame),
             text::number(bytes, 16, 1),
         )
         && given(
-            exports_frames::chherbolat_data_length(frame),
+            exports_info::chherbolat_data_length(frame),
             text::number(bytes, 17, 1),
         )
         && given(
-            exports_frames::chherbolat_data_offset(frame),
+            exports_info::chherbolat_data_offset(frame),
             text::number(bytes, 18, 1),
         )
         && given(

@@ -68,7 +68,7 @@ unsafe extern "C" {
     ) -> Answer;
 }
 
-#[link(name = "exports_frames", kind = "static")]
+#[link(name = "exports_info", kind = "static")]
 unsafe extern "C" {
     fn chherbolat_is_extended_format(frame: *const u8, frame_length: usize) -> Answer;
     fn chherbolat_is_remote_request(frame: *const u8, frame_length: usize) -> Answer;
@@ -76,6 +76,10 @@ unsafe extern "C" {
     fn chherbolat_data_length_code(frame: *const u8, frame_length: usize) -> Answer;
     fn chherbolat_data_length(frame: *const u8, frame_length: usize) -> Answer;
     fn chherbolat_data_offset(frame: *const u8, frame_length: usize) -> Answer;
+}
+
+#[link(name = "exports_frames", kind = "static")]
+unsafe extern "C" {
     fn chherbolat_identifier(frame: *const u8, frame_length: usize) -> Answer;
     fn chherbolat_data(frame: *const u8, frame_length: usize, out: *mut u8, out_length: usize) -> Answer;
     fn chherbolat_as_slice(frame: *const u8, frame_length: usize, out: *mut u8, out_length: usize) -> Answer;

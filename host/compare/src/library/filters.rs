@@ -26,31 +26,11 @@ unsafe extern "C" {
         registers: *mut u8,
         registers_length: usize,
     ) -> Answer;
-    fn chherbolat_single_standard_filter_new_from_code_mask(
-        id_code: u16,
-        id_mask: u16,
-        rtr_code: bool,
-        rtr_mask: bool,
-        first_code: u8,
-        second_code: u8,
-        first_mask: u8,
-        second_mask: u8,
-        registers: *mut u8,
-        registers_length: usize,
-    ) -> Answer;
     fn chherbolat_single_extended_filter_new(
         id: *const u8,
         id_length: usize,
         rtr: *const u8,
         rtr_length: usize,
-        registers: *mut u8,
-        registers_length: usize,
-    ) -> Answer;
-    fn chherbolat_single_extended_filter_new_from_code_mask(
-        id_code: u32,
-        id_mask: u32,
-        rtr_code: bool,
-        rtr_mask: bool,
         registers: *mut u8,
         registers_length: usize,
     ) -> Answer;
@@ -68,6 +48,38 @@ unsafe extern "C" {
         registers: *mut u8,
         registers_length: usize,
     ) -> Answer;
+    fn chherbolat_dual_extended_filter_new(
+        first: *const u8,
+        first_length: usize,
+        second: *const u8,
+        second_length: usize,
+        registers: *mut u8,
+        registers_length: usize,
+    ) -> Answer;
+}
+
+#[link(name = "exports_masks", kind = "static")]
+unsafe extern "C" {
+    fn chherbolat_single_standard_filter_new_from_code_mask(
+        id_code: u16,
+        id_mask: u16,
+        rtr_code: bool,
+        rtr_mask: bool,
+        first_code: u8,
+        second_code: u8,
+        first_mask: u8,
+        second_mask: u8,
+        registers: *mut u8,
+        registers_length: usize,
+    ) -> Answer;
+    fn chherbolat_single_extended_filter_new_from_code_mask(
+        id_code: u32,
+        id_mask: u32,
+        rtr_code: bool,
+        rtr_mask: bool,
+        registers: *mut u8,
+        registers_length: usize,
+    ) -> Answer;
     fn chherbolat_dual_standard_filter_new_from_code_mask(
         first_id_code: u16,
         first_id_mask: u16,
@@ -79,14 +91,6 @@ unsafe extern "C" {
         second_id_mask: u16,
         second_rtr_code: bool,
         second_rtr_mask: bool,
-        registers: *mut u8,
-        registers_length: usize,
-    ) -> Answer;
-    fn chherbolat_dual_extended_filter_new(
-        first: *const u8,
-        first_length: usize,
-        second: *const u8,
-        second_length: usize,
         registers: *mut u8,
         registers_length: usize,
     ) -> Answer;
