@@ -8,7 +8,7 @@ use Rattle.laws.specs.Row.{bit}
 use Rattle.laws.proofs.Tabulate.{length-tabulate}
 use Rattle.queue.specs.Ring.{queueLimit}
 use Rattle.queue.specs.View.{recordAt}
-use Rattle.frames.specs.Buffer.{dataLengthOf}
+use Rattle.frame_info.specs.Info.{dataLengthOf}
 use Rattle.fifo.specs.declared.Entry.{Entry}
 use Rattle.fifo.specs.Ring.{weightOf, wholeEntry, entryAt}
 use Rattle.words.specs.Due.{receiveDue, noticeDue}

@@ -5,7 +5,7 @@ use mathlib.Core.Path.{_≡_, refl}
 use mathlib.Core.List.{List, [], _∷_, _++_}
 use lib.ListN.{replicate}
 use Rattle.laws.specs.Said.{refuses, gives}
-use Rattle.frames.specs.Buffer.{dataLengthOf}
+use Rattle.frame_info.specs.Info.{dataLengthOf}
 use Rattle.records.specs.Same.{sameBytes}
 use Rattle.queue.specs.Ring.{queueOk, offerOf, takeOf as queueTakeOf}
 use Rattle.fifo.specs.Ring.{weightOf, sumTo, fifoOk, arriveOf as fifoArriveOf}

@@ -2,7 +2,7 @@
 ghost use mathlib.Core.Path.{_≡_};
 ghost use Rattle.laws.specs.Said.{gives};
 ghost use Rattle.laws.specs.Row.{bit};
-ghost use Rattle.frames.specs.Buffer.{extendedOf, remoteOf, ownOf, codeOf, dataLengthOf, dataOffsetOf};
+ghost use Rattle.frame_info.specs.Info.{extendedOf, remoteOf, ownOf, codeOf, dataLengthOf, dataOffsetOf};
 ghost use Rattle.answers.specs.Answers.{answerOf, whole};
 use answers::Answer;
 
@@ -14,7 +14,7 @@ pub extern "C" fn chherbolat_is_extended_format(frame: &[u8]) -> Answer
         return answers::wrong_length(0);
     }
     let bytes = answers::buffer(frame);
-    answers::given_flag(frames::is_extended_format(&bytes))
+    answers::given_flag(frame_info::is_extended_format(&bytes))
 }
 
 #[no_mangle]
@@ -25,7 +25,7 @@ pub extern "C" fn chherbolat_is_remote_request(frame: &[u8]) -> Answer
         return answers::wrong_length(0);
     }
     let bytes = answers::buffer(frame);
-    answers::given_flag(frames::is_remote_request(&bytes))
+    answers::given_flag(frame_info::is_remote_request(&bytes))
 }
 
 #[no_mangle]
@@ -36,7 +36,7 @@ pub extern "C" fn chherbolat_is_self_reception(frame: &[u8]) -> Answer
         return answers::wrong_length(0);
     }
     let bytes = answers::buffer(frame);
-    answers::given_flag(frames::is_self_reception(&bytes))
+    answers::given_flag(frame_info::is_self_reception(&bytes))
 }
 
 #[no_mangle]
@@ -47,7 +47,7 @@ pub extern "C" fn chherbolat_data_length_code(frame: &[u8]) -> Answer
         return answers::wrong_length(0);
     }
     let bytes = answers::buffer(frame);
-    answers::given(frames::data_length_code(&bytes) as u64)
+    answers::given(frame_info::data_length_code(&bytes) as u64)
 }
 
 #[no_mangle]
@@ -58,7 +58,7 @@ pub extern "C" fn chherbolat_data_length(frame: &[u8]) -> Answer
         return answers::wrong_length(0);
     }
     let bytes = answers::buffer(frame);
-    answers::given(frames::data_length(&bytes) as u64)
+    answers::given(frame_info::data_length(&bytes) as u64)
 }
 
 #[no_mangle]
@@ -69,5 +69,5 @@ pub extern "C" fn chherbolat_data_offset(frame: &[u8]) -> Answer
         return answers::wrong_length(0);
     }
     let bytes = answers::buffer(frame);
-    answers::given(frames::data_offset(&bytes) as u64)
+    answers::given(frame_info::data_offset(&bytes) as u64)
 }

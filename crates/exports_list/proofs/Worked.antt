@@ -5,8 +5,9 @@ use mathlib.Core.Bool.{false}
 use mathlib.Core.List.{List, [], _∷_}
 use lib.ListN.{replicate}
 use Rattle.laws.specs.Laid.{written}
+use Rattle.pattern_characters.specs.Characters.{badAt}
 use Rattle.filter_patterns.specs.Table.{fieldsOf}
-use Rattle.filter_patterns.specs.Words.{one, care, wordFrom, badAt}
+use Rattle.filter_patterns.specs.Words.{one, care, wordFrom}
 use Rattle.filter_patterns.specs.Answers.{compileOf}
 use Rattle.filter_list.specs.Pattern.{characterAt, patternOf}
 use Rattle.filter_list.specs.Answers.{firstAbove, registersFor, throughOf, listingOf, listedOf}

@@ -11,8 +11,8 @@ use native.Mathlib.Omega.{arith}
 use borrow.Author.Tests.{ltb-true, ltb-false, leb-true, leb-false, eqb-true, lt-ltb, le-leb, eq-eqb}
 use Rattle.laws.proofs.Bools.{both-true}
 use Rattle.laws.proofs.Tabulate.{tabulate-ext, tabulate-snoc, tabulate-cons}
-use Rattle.frames.specs.Buffer.{extendedOf, dataLengthOf}
-use Rattle.frames.proofs.Buffer.{data-bound}
+use Rattle.frame_info.specs.Info.{extendedOf, dataLengthOf}
+use Rattle.frame_info.proofs.Info.{data-bound}
 use Rattle.fifo.specs.declared.Entry.{Entry}
 use Rattle.fifo.specs.declared.Fifo.{Fifo}
 use Rattle.fifo.specs.Ring.{entryLimit, weightLimit, weightOf, wholeEntry, markEntry, sumTo, sumOf, fifoOk, entryAt, frontOf, entriesOf, released, pushed, nowhere, arriveOf}

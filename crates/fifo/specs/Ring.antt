@@ -6,7 +6,7 @@ use mathlib.Core.List.{List, []}
 use lib.Dec.{ltb, leb, eqb}
 use lib.ListN.{getD, set, replicate}
 use Rattle.laws.specs.Tabulate.{tabulate}
-use Rattle.frames.specs.Buffer.{extendedOf, dataLengthOf}
+use Rattle.frame_info.specs.Info.{extendedOf, dataLengthOf}
 use Rattle.fifo.specs.declared.Entry.{Entry}
 use Rattle.fifo.specs.declared.Fifo.{Fifo}
 use Rattle.fifo.specs.declared.Arrival.{Arrival}

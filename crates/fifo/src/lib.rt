@@ -38,8 +38,8 @@ fn weight_of(entry: Entry) -> usize
         return 0;
     }
     let bytes = entry.bytes;
-    let length = frames::data_length(&bytes);
-    if frames::is_extended_format(&bytes) {
+    let length = frame_info::data_length(&bytes);
+    if frame_info::is_extended_format(&bytes) {
         return 5 + length;
     }
     3 + length

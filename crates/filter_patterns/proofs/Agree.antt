@@ -16,9 +16,10 @@ use native.Mathlib.Omega.{arith}
 use Rattle.laws.specs.Bits.{bitAt}
 use Rattle.laws.proofs.Bools.{both-left, both-right}
 use Rattle.laws.proofs.Bits.{bit-zero, bit-or, bit-here, bit-there}
+use Rattle.pattern_characters.specs.Characters.{isCharacter, allCharacters}
 use Rattle.filter_registers.specs.Meaning.{Agree}
-use Rattle.filter_patterns.specs.Words.{one, care, isCharacter, wordFrom, codeOf, maskOf}
-use Rattle.filter_patterns.specs.Meaning.{fresh, distinct, within, allCharacters, Matches}
+use Rattle.filter_patterns.specs.Words.{one, care, wordFrom, codeOf, maskOf}
+use Rattle.filter_patterns.specs.Meaning.{fresh, distinct, within, Matches}
 use Rattle.filter_patterns.proofs.Characters.{one-lt, care-lt, care-is, care-not, value}
 
 fresh-at : (p : ℕ) (qs : List ℕ) → T (fresh p qs) → (i : ℕ) → i < length qs → p ≢ getD qs i 0

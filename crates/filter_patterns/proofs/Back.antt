@@ -11,10 +11,11 @@ use native.Mathlib.Omega.{arith}
 use Rattle.laws.specs.Bits.{bitAt}
 use Rattle.laws.specs.Said.{gives}
 use Rattle.laws.proofs.Bits.{bit-not}
+use Rattle.pattern_characters.specs.Characters.{isCharacter}
 use Rattle.filter_registers.specs.Registers.{codeIn, maskIn}
 use Rattle.filter_registers.proofs.Registers.{code-back, mask-back}
 use Rattle.filter_patterns.specs.Table.{Filter, fieldsOf, rowOf, joined}
-use Rattle.filter_patterns.specs.Words.{one, care, codeOf, maskOf, isCharacter}
+use Rattle.filter_patterns.specs.Words.{one, care, codeOf, maskOf}
 use Rattle.filter_patterns.specs.Answers.{compileOf}
 use Rattle.filter_patterns.specs.Meaning.{characterIn, charactersIn, patternsIn}
 use Rattle.filter_patterns.proofs.Table.{row-distinct, row-within, within-at}

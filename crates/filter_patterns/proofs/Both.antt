@@ -10,7 +10,8 @@ use lib.Pow.{shl-lt, shl-exact, pow-mono}
 use native.Mathlib.Nat.{add-mul, mul-assoc, mul-comm}
 use native.Mathlib.Omega.{arith}
 use Rattle.laws.proofs.Bools.{both-left, both-right}
-use Rattle.filter_patterns.specs.Words.{one, care, isCharacter, wordFrom, codeOf, maskOf}
+use Rattle.pattern_characters.specs.Characters.{isCharacter}
+use Rattle.filter_patterns.specs.Words.{one, care, wordFrom, codeOf, maskOf}
 use Rattle.filter_patterns.specs.Meaning.{within}
 use Rattle.filter_patterns.proofs.Characters.{one-not, one-lt, care-is, care-not, value, laid-none}
 use Rattle.filter_patterns.proofs.Agree.{word-lt}

@@ -1,5 +1,5 @@
 -- What each pattern character asks for, from the tests that tell it. Assumes nothing.
-use Prim.Native.Nat.{ℕ, _+_, _*_, _/_, _^_, _<_}
+use Prim.Native.Nat.{ℕ, _+_, _*_, _^_, _<_}
 use mathlib.Core.Path.{_≡_, sym, ap, _∙_}
 use mathlib.Core.Bool.{Bool, true, false, cond}
 use lib.Bits.{bitOr, or-zero-r}
@@ -8,7 +8,9 @@ use native.Mathlib.Nat.{zero-mul}
 use native.Mathlib.Decide.{ℕ-discrete}
 use native.Mathlib.Omega.{arith}
 use borrow.Author.Tests.{ne-eqb}
-use Rattle.filter_patterns.specs.Words.{one, care, isCharacter}
+use Rattle.pattern_characters.specs.Characters.{isCharacter}
+use Rattle.pattern_characters.proofs.Characters.{character-none}
+use Rattle.filter_patterns.specs.Words.{one, care}
 
 pub one-is : (c : ℕ) → c ≡ 49 → one c ≡ 1
 unfolding one
@@ -42,13 +44,6 @@ pub care-lt : (c : ℕ) → care c < 2
 unfolding care
 care-lt c = care-small (eqb c 120)
 
-pub character-none : (c : ℕ) → (c ≡ 48 → ⊥) → (c ≡ 49 → ⊥) → (c ≡ 120 → ⊥) → isCharacter c ≡ false
-character-none c n m k = rw (ne-eqb c 48 n, ne-eqb c 49 m, ne-eqb c 120 k)
-
--- half of `0` and of `1` is 24, and of no other byte
-pub half : (c : ℕ) → (c ≡ 120 → ⊥) → eqb (c / 2) 24 ≡ isCharacter c
-half c n = elim (ℕ-discrete c 48) [ yes e ↦ rw e | no n0 ↦ elim (ℕ-discrete c 49) [ yes e ↦ rw e | no n1 ↦ ne-eqb (c / 2) 24 (λ e. omega arith) ∙ sym (character-none c n0 n1 n) ] ]
-
 -- a character other than `x` is `0` or `1`, as its bit says
 pub value : (c : ℕ) → T (isCharacter c) → (c ≡ 120 → ⊥) → c ≡ 48 + one c
 unfolding one
@@ -57,6 +52,3 @@ value c t n = elim (ℕ-discrete c 48) [ yes e ↦ rw e | no n0 ↦ elim (ℕ-di
 -- a bit laid into a word: none changes nothing
 pub laid-none : (w d p : ℕ) → d ≡ 0 → w ≡ bitOr w (d * 2 ^ p)
 laid-none w d p e = sym (ap (λ (x : ℕ). bitOr w (x * 2 ^ p)) e ∙ ap (bitOr w) (zero-mul (2 ^ p)) ∙ or-zero-r w)
-
-pub other : (b : Bool) (x y z : ℕ) → b ≡ false → z ≡ y → z ≡ cond b x y
-other b x y z e h = rw e h

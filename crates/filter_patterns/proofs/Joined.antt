@@ -1,23 +1,20 @@
 -- The fields joined into one row of 32, and what the `x` after them change: nothing. Assumes nothing.
-use Prim.Native.Nat.{ℕ, zero, suc, _+_, _-_, _*_, _^_, _≤_, _<_}
+use Prim.Native.Nat.{ℕ, zero, suc, _+_, _-_, _*_, _^_, _≤_}
 use mathlib.Core.Path.{_≡_, refl, sym, ap, ap₂, _∙_}
-use mathlib.Core.Logic.{_⊎_, inl, inr}
-use mathlib.Core.Bool.{Bool, true, false, cond, not, _&&_}
+use mathlib.Core.Bool.{Bool, true, false, cond, _&&_}
 use mathlib.Core.List.{List, [], _∷_, _++_, append-nil, append-assoc}
 use lib.Bits.{bitOr}
-use lib.Dec.{ltb, leb·suc-suc}
-use lib.ListN.{length, getD, take, drop, replicate, length-append, length-replicate, replicate-append-replicate}
-use lib.Seq.{paste, take-at, drop-at, take-length, drop-length, drop-cons, drop-append-add}
-use native.Mathlib.Numerals.{add-one}
+use lib.ListN.{length, take, drop, replicate, length-append, length-replicate, replicate-append-replicate}
+use lib.Seq.{paste, take-at, drop-at, take-length, drop-append-add}
 use native.Mathlib.Omega.{arith}
-use borrow.Author.Tests.{lt-ltb}
 use Rattle.laws.specs.Said.{refuses, gives}
+use Rattle.pattern_characters.specs.Characters.{isCharacter, allCharacters, badAt}
+use Rattle.pattern_characters.proofs.Characters.{all-or-bad}
 use Rattle.filter_patterns.specs.Table.{joined}
-use Rattle.filter_patterns.specs.Words.{wordFrom, isCharacter, badAt, badFrom}
+use Rattle.filter_patterns.specs.Words.{wordFrom}
 use Rattle.filter_patterns.specs.Answers.{charactersOf}
-use Rattle.filter_patterns.specs.Meaning.{allCharacters}
 use Rattle.filter_patterns.proofs.Characters.{laid-none}
-use Rattle.filter_patterns.proofs.Words.{word-none, bad-is}
+use Rattle.filter_patterns.proofs.Words.{word-none}
 
 -- ---- one field after the other
 spare : (n k j : ℕ) → k ≡ n + j → drop {A = ℕ} n (replicate k 120) ≡ replicate j 120
@@ -84,53 +81,12 @@ bad-spared (c ∷ s) t e = cases (isCharacter c) e (bad-spared s t)
     cases true h r = ap suc (r h)
     cases false h r = refl
 
--- ---- one character after the other
-and-true : (a : Bool) → (a && true) ≡ a
-and-true true = refl
-and-true false = refl
-
-and-false : (a : Bool) → (a && false) ≡ false
-and-false true = refl
-and-false false = refl
-
-and-group : (a b d : Bool) → ((a && b) && d) ≡ (a && (b && d))
-and-group true b d = refl
-and-group false b d = refl
-
-pub all-turn : (s : List ℕ) (i : ℕ) (old known new r : Bool) → i < length s → known ≡ isCharacter (getD s i 0)
-    → ((known ≡ false) × (new ≡ false)) ⊎ ((known ≡ true) × (new ≡ old))
-    → (old && allCharacters (drop i s)) ≡ r → (new && allCharacters (drop (i + 1) s)) ≡ r
-all-turn s i old known new r h k step q =
-    rw (add-one, both step, k) (and-group old (isCharacter (getD s i 0)) (allCharacters (drop (suc i) s)) ∙ sym (rw (drop-cons s i 0)) ∙ q)
-  where
-    both : ((known ≡ false) × (new ≡ false)) ⊎ ((known ≡ true) × (new ≡ old)) → new ≡ (old && known)
-    both (inl e) = e .1 ∙ sym (and-false old) ∙ ap (λ (b : Bool). old && b) (sym (e .0))
-    both (inr e) = e .1 ∙ sym (and-true old) ∙ ap (λ (b : Bool). old && b) (sym (e .0))
-
-pub all-end : (s : List ℕ) (i : ℕ) (all r : Bool) → length s ≤ i → i ≤ length s → (all && allCharacters (drop i s)) ≡ r → all ≡ r
-all-end s i all r h k e =
-    let end : i ≡ length s = omega arith in
-    sym (and-true all) ∙ sym (rw (end, drop-length)) ∙ e
-
--- ---- all are pattern characters, or there is a first that is none
-all-or-bad : (s : List ℕ) → ltb (badAt s) (length s) ≡ not (allCharacters s)
-unfolding badAt
-all-or-bad [] = refl
-all-or-bad (c ∷ s) = cases (isCharacter c) (all-or-bad s)
-  where
-    cases : (b : Bool) → ltb (badAt s) (length s) ≡ not (allCharacters s)
-        → ltb (cond b (suc (badAt s)) 0) (suc (length s)) ≡ not (b && allCharacters s)
-    cases true r = leb·suc-suc (suc (badAt s)) (length s) ∙ r
-    cases false r = lt-ltb 0 (suc (length s)) (omega arith)
-
+-- ---- what is said of the characters
 pub bad-said : (s : List ℕ) → allCharacters s ≡ false → charactersOf s ≡ refuses 5 (badAt s)
 bad-said s e = rw (all-or-bad s, e)
 
 pub good-said : (s : List ℕ) → allCharacters s ≡ true → charactersOf s ≡ gives 8
 good-said s e = rw (all-or-bad s, e)
-
-pub first-is : (s : List ℕ) → allCharacters s ≡ false → badFrom (length s) 0 s ≡ badAt s
-first-is s e = bad-is (length s) 0 s (omega arith) ∙ rw (all-or-bad s, e) (omega arith)
 
 pub said-spared : (s : List ℕ) (k : ℕ) → charactersOf (s ++ replicate k 120) ≡ charactersOf s
 said-spared s k = cases (allCharacters s) refl

@@ -10,13 +10,14 @@ use lib.ListN.{length, length-append}
 use native.Mathlib.Omega.{arith}
 use borrow.Author.Tests.{ltb-false}
 use Rattle.laws.specs.Said.{Said, refuses, gives}
+use Rattle.pattern_characters.specs.Characters.{isCharacter, allCharacters, badAt}
 use Rattle.filter_registers.specs.Registers.{registersOf}
 use Rattle.filter_registers.specs.Meaning.{Accepts}
 use Rattle.filter_registers.proofs.Registers.{accepts-is}
 use Rattle.filter_patterns.specs.Table.{Filter, fieldsOf, rowOf, joined, lengths}
-use Rattle.filter_patterns.specs.Words.{one, care, isCharacter, codeOf, maskOf, badAt}
+use Rattle.filter_patterns.specs.Words.{one, care, codeOf, maskOf}
 use Rattle.filter_patterns.specs.Answers.{charactersOf, compileOf}
-use Rattle.filter_patterns.specs.Meaning.{allCharacters, Matches}
+use Rattle.filter_patterns.specs.Meaning.{Matches}
 use Rattle.filter_patterns.proofs.Table.{row-distinct, row-within}
 use Rattle.filter_patterns.proofs.Characters.{one-lt, care-lt}
 use Rattle.filter_patterns.proofs.Answers.{lengths-given}

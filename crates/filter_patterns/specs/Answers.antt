@@ -6,9 +6,10 @@ use mathlib.Core.List.{List, [], _∷_}
 use lib.Dec.{eqb, ltb}
 use lib.ListN.{length, replicate}
 use Rattle.laws.specs.Said.{Said, refuses, gives, accepted}
+use Rattle.pattern_characters.specs.Characters.{badAt}
 use Rattle.filter_registers.specs.Registers.{registersOf}
 use Rattle.filter_patterns.specs.Table.{Filter, fieldsOf, rowOf, joined, lengths}
-use Rattle.filter_patterns.specs.Words.{codeOf, maskOf, badAt}
+use Rattle.filter_patterns.specs.Words.{codeOf, maskOf}
 
 -- by the fields' widths and the patterns' lengths, counted from a field on; and what is said where all are right
 abbrev pub lengthsOf : ℕ → List ℕ → List ℕ → Said ℕ → Said ℕ

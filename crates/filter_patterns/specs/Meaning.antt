@@ -8,7 +8,6 @@ use lib.Dec.{eqb, ltb}
 use lib.ListN.{length, getD}
 use Rattle.laws.specs.Bits.{bitAt}
 use Rattle.filter_registers.specs.Registers.{codeIn, maskIn}
-use Rattle.filter_patterns.specs.Words.{isCharacter}
 
 -- no two of a row's positions are equal
 abbrev pub fresh : ℕ → List ℕ → Bool
@@ -23,10 +22,6 @@ distinct (p ∷ ps) = fresh p ps && distinct ps
 abbrev pub within : List ℕ → Bool
 within [] = true
 within (p ∷ ps) = ltb p 32 && within ps
-
-abbrev pub allCharacters : List ℕ → Bool
-allCharacters [] = true
-allCharacters (c ∷ cs) = isCharacter c && allCharacters cs
 
 -- each character other than `x` equals the word's bit at its position
 abbrev pub Matches : List ℕ → List ℕ → ℕ → Type 0

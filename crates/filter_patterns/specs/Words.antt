@@ -1,13 +1,10 @@
 -- The words of code and mask that pattern characters ask for at a row's positions.
 -- Source: the outline, "Registers"; the pattern characters `0`, `1` and `x` of the Rust's filters.
-use Prim.Native.Nat.{ℕ, suc, _*_, _^_, min}
-use mathlib.Core.Bool.{Bool, cond, _||_}
+use Prim.Native.Nat.{ℕ, _*_, _^_}
+use mathlib.Core.Bool.{cond}
 use mathlib.Core.List.{List, [], _∷_}
 use lib.Bits.{bitOr}
 use lib.Dec.{eqb}
-
-abbrev pub isCharacter : ℕ → Bool
-isCharacter c = eqb c 48 || eqb c 49 || eqb c 120
 
 -- the code's bit: 1 for `1`
 unfoldable pub one : ℕ → ℕ
@@ -28,13 +25,3 @@ codeOf ps cs = wordFrom one 0 ps cs
 
 abbrev pub maskOf : List ℕ → List ℕ → ℕ
 maskOf ps cs = wordFrom care 0 ps cs
-
--- the first place that holds no pattern character, or the length
-unfoldable pub badAt : List ℕ → ℕ
-badAt [] = 0
-badAt (c ∷ cs) = cond (isCharacter c) (suc (badAt cs)) 0
-
--- the same, counted from a place on, where the first so far is known
-unfoldable pub badFrom : ℕ → ℕ → List ℕ → ℕ
-badFrom first at [] = first
-badFrom first at (c ∷ cs) = badFrom (cond (isCharacter c) first (min first at)) (suc at) cs

@@ -1,17 +1,17 @@
 // Filter patterns: the acceptance registers that the patterns of a filter's fields ask for, by the one table of positions.
 ghost use mathlib.Core.Path.{_≡_};
-ghost use mathlib.Core.Bool.{true, cond};
+ghost use mathlib.Core.Bool.{true};
 ghost use mathlib.Core.List.{_∷_, [], _++_};
-ghost use Prim.Native.Nat.{_+_, _-_, _*_, _/_, _%_, _^_, _<_, _≤_, min};
+ghost use Prim.Native.Nat.{_+_, _-_, _*_, _/_, _%_, _^_, _<_, _≤_};
 ghost use lib.Bits.{bitOr};
 ghost use lib.ListN.{length, drop, getD, replicate};
 ghost use lib.Seq.{paste};
 ghost use Rattle.laws.specs.Said.{gives};
+ghost use Rattle.pattern_characters.specs.Characters.{isCharacter, allCharacters};
 ghost use Rattle.filter_registers.specs.Registers.{registersOf};
 ghost use Rattle.filter_registers.specs.Answers.{compilingSaid, compiledSaid};
 ghost use Rattle.filter_patterns.specs.Table.{singleStandard, singleExtended, dualStandard, dualExtended, joined, places};
-ghost use Rattle.filter_patterns.specs.Words.{one, care, isCharacter, codeOf, maskOf, badFrom};
-ghost use Rattle.filter_patterns.specs.Meaning.{allCharacters};
+ghost use Rattle.filter_patterns.specs.Words.{one, care, codeOf, maskOf};
 ghost use Rattle.filter_patterns.specs.Answers.{lengthsOf, charactersOf, answered, compileOf};
 use filter_registers::Compiled;
 use filter_registers::Compiling;
@@ -153,59 +153,6 @@ pub struct Row {
     pub e: usize,
 }
 
-fn known(character: u8) -> bool
-    ensures { λ r. ⌜ r ≡ isCharacter character ⌝ }
-{
-    if character == b'x' {
-        return true;
-    }
-    // `0` and `1` are 48 and 49
-    character / 2 == 24
-}
-
-// Each is looked at, whatever was found before, so that the compiler can look at many at once.
-fn all_known(characters: &[u8]) -> bool
-    ensures { λ r. ⌜ r ≡ allCharacters (now (characters .entry)) ⌝ }
-{
-    let mut all = true;
-    let mut i = 0;
-    while i < characters.len() {
-        if !known(characters[i]) {
-            all = false;
-        }
-        i += 1;
-    }
-    all
-}
-
-fn earlier(first: usize, at: usize) -> usize
-    ensures { λ r. ⌜ r ≡ min first at ⌝ }
-{
-    if first < at { first } else { at }
-}
-
-fn judge(first: usize, at: usize, character: u8) -> usize
-    ensures { λ r. ⌜ r ≡ cond (isCharacter character) first (min first at) ⌝ }
-{
-    if known(character) {
-        return first;
-    }
-    earlier(first, at)
-}
-
-// The first place of a byte that is no pattern character (the length if there is none).
-fn first_bad(characters: &[u8]) -> usize
-    ensures { λ r. ⌜ r ≡ badFrom (length (now (characters .entry))) 0 (now (characters .entry)) ⌝ }
-{
-    let mut first = characters.len();
-    let mut i = 0;
-    while i < characters.len() {
-        first = judge(first, i, characters[i]);
-        i += 1;
-    }
-    first
-}
-
 fn place(table: &[u8; 122], at: usize) -> u8
     requires { ⌜ (at < 122) × (now table ≡ places) ⌝ }
     ensures { λ r. ⌜ (r ≡ getD places at 0) × (r < 32) ⌝ }
@@ -299,8 +246,10 @@ fn compile(start: usize, joined: &[u8; 32]) -> Compiled
     ensures { λ r. ⌜ compiledSaid r ≡ answered (charactersOf (now (joined .entry))) (registersOf (codeOf (drop start places) (now (joined .entry))) (maskOf (drop start places) (now (joined .entry)))) ⌝ }
 {
     let characters = &joined[..];
-    if !all_known(characters) {
-        return filter_registers::refused(Refusal::PatternByte(first_bad(characters)));
+    if !pattern_characters::all_known(characters) {
+        return filter_registers::refused(Refusal::PatternByte(pattern_characters::first_bad(
+            characters,
+        )));
     }
     let words = fill(start, characters);
     filter_registers::made(

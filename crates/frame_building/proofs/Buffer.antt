@@ -10,7 +10,8 @@ use native.Mathlib.Nat.{add-zero, zero-sub, suc-sub-suc, sub-zero}
 use native.Mathlib.Omega.{arith}
 use Rattle.laws.specs.Row.{pack, bytes}
 use Rattle.laws.proofs.Row.{unpack-length}
-use Rattle.frames.specs.Buffer.{Frame, idRow, idBytes, dataStart}
+use Rattle.frame_info.specs.Info.{idBytes, dataStart}
+use Rattle.frames.specs.Buffer.{Frame, idRow}
 use Rattle.frame_building.specs.Buffer.{infoByte, idBytesOf, bufferOf}
 
 drop-zeros : (n k : ℕ) → drop k (replicate n zero) ≡ replicate (n - k) zero

@@ -14,7 +14,8 @@ use Rattle.laws.proofs.Row.{unpack-pack, regroup-back}
 use Rattle.laws.proofs.Tabulate.{part-is}
 use Rattle.laws.specs.Said.{gives}
 use Rattle.identifiers.specs.Limits.{limitOf}
-use Rattle.frames.specs.Buffer.{Frame, idRow, idBytes, dataStart, infoOf, extendedOf, remoteOf, ownOf, codeOf, idFields, idIn, idOf, dataLengthOf, dataOf}
+use Rattle.frame_info.specs.Info.{idBytes, dataStart, infoOf, extendedOf, remoteOf, ownOf, codeOf, dataLengthOf}
+use Rattle.frames.specs.Buffer.{Frame, idRow, idFields, idIn, idOf, dataOf}
 use Rattle.frames.proofs.Reading.{row-width}
 use Rattle.frame_building.specs.Buffer.{idBytesOf, bufferOf}
 use Rattle.frame_building.specs.Building.{judged}

@@ -5,7 +5,8 @@ use mathlib.Core.Path.{_≡_}
 use mathlib.Core.Bool.{true}
 use mathlib.Core.List.{List}
 use lib.ListN.{getD, drop, replicate}
-use Rattle.frames.specs.Buffer.{infoOf, extendedOf, remoteOf, codeOf, idFields, dataOffsetOf, dataLengthOf}
+use Rattle.frame_info.specs.Info.{infoOf, extendedOf, remoteOf, codeOf, dataOffsetOf, dataLengthOf}
+use Rattle.frames.specs.Buffer.{idFields}
 
 pub record Clean (b : List ℕ) : Type 0 where
   pub reserved-bit : getD (infoOf b) 2 0 ≡ 0

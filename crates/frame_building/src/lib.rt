@@ -7,7 +7,7 @@ ghost use lib.ListN.{length};
 ghost use lib.Seq.{paste};
 ghost use Rattle.laws.specs.Row.{bit};
 ghost use Rattle.identifiers.specs.Limits.{limitOf, isExtended, rawOf};
-ghost use Rattle.frames.specs.Buffer.{dataStart};
+ghost use Rattle.frame_info.specs.Info.{dataStart};
 ghost use Rattle.frame_building.specs.Buffer.{infoByte, bufferOf};
 ghost use Rattle.frame_building.specs.Building.{invalidLength, nonCompliant, judgeOf, buildOf, buildingSaid, builtSaid, asked, askedData};
 use identifiers::Id;

@@ -1,30 +1,14 @@
--- The buffer's parts: where the data end, what the identifier is read from.
--- Assumes nothing.
-use Prim.Native.Nat.{ℕ, _+_, _≤_, min}
+-- What the identifier is read from. Assumes nothing.
+use Prim.Native.Nat.{ℕ, _≤_}
 use mathlib.Core.Path.{_≡_, ap, sym, _∙_}
-use mathlib.Core.Bool.{Bool, true, false, cond}
+use mathlib.Core.Bool.{Bool}
 use mathlib.Core.List.{List}
-use native.Mathlib.Omega.{arith}
 use Rattle.laws.specs.Said.{Said}
 use Rattle.identifiers.specs.Answers.{newOf}
 use Rattle.identifiers.specs.Limits.{limitOf}
-use Rattle.frames.specs.Buffer.{dataStart, extendedOf, remoteOf, codeOf, idIn, idOf, dataLengthOf, dataOffsetOf}
+use Rattle.frame_info.specs.Info.{extendedOf}
+use Rattle.frames.specs.Buffer.{idIn, idOf}
 use Rattle.frames.specs.Reading.{withFormat, identifierIn, identifierOf}
-
-pub start-bound : (format : Bool) → dataStart format ≤ 5
-start-bound false = omega arith
-start-bound true = omega arith
-
-length-bound : (remote : Bool) (code : ℕ) → cond remote 0 (min code 8) ≤ 8
-length-bound false code = omega arith
-length-bound true code = omega arith
-
-pub data-bound : (b : List ℕ) → dataLengthOf b ≤ 8
-unfolding dataLengthOf
-data-bound b = length-bound (remoteOf b) (codeOf b)
-
-pub used-bound : (b : List ℕ) → dataOffsetOf b + dataLengthOf b ≤ 13
-used-bound b = omega (arith, start-bound (extendedOf b), data-bound b)
 
 pub identified : (b : List ℕ) (format : Bool) (raw : ℕ) (answer : Said ℕ) → answer ≡ newOf format raw
     → raw ≡ idIn format b → extendedOf b ≡ format → withFormat format answer ≡ identifierOf b

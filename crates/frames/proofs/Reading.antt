@@ -13,7 +13,8 @@ use Rattle.laws.specs.Tabulate.{part, Bytes}
 use Rattle.laws.proofs.Row.{regroup-fits}
 use Rattle.laws.proofs.Tabulate.{bytes-fit}
 use Rattle.identifiers.specs.Limits.{limitOf}
-use Rattle.frames.specs.Buffer.{idRow, idBytes, extendedOf, idFields, idIn, idOf}
+use Rattle.frame_info.specs.Info.{idBytes, extendedOf}
+use Rattle.frames.specs.Buffer.{idRow, idFields, idIn, idOf}
 use Rattle.frames.specs.Reading.{identifierOf}
 
 -- both formats' rows are as wide as their bytes

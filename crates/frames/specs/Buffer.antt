@@ -1,30 +1,18 @@
--- The 13-byte frame buffer, field by field: the rows that building and reading share, and what a buffer says.
--- Source: ESP32-C3 manual, TWAI chapter, frame information, frame identifier and frame data (the SJA1000 sheet's transmit and receive buffer);
+-- The 13-byte frame buffer behind its information byte: the identifier's row, which building and reading share, the data, and all that a buffer says.
+-- Source: ESP32-C3 manual, TWAI chapter, frame identifier and frame data (the SJA1000 sheet's transmit and receive buffer);
 -- the outline, "Frame buffer".
-use Prim.Native.Nat.{ℕ, _+_, min}
-use mathlib.Core.Bool.{Bool, true, false, cond}
+use Prim.Native.Nat.{ℕ, _+_}
+use mathlib.Core.Bool.{Bool, true, false}
 use mathlib.Core.List.{List, [], _∷_}
-use lib.Dec.{eqb}
 use lib.ListN.{getD, take, drop}
-use Rattle.laws.specs.Row.{unpack, regroup, bytes}
+use Rattle.laws.specs.Row.{regroup, bytes}
 use Rattle.laws.specs.Tabulate.{part}
+use Rattle.frame_info.specs.Info.{idBytes, extendedOf, remoteOf, ownOf, codeOf, dataLengthOf, dataOffsetOf}
 
--- byte 0: frame format (1 extended), remote request, reserved, self-reception, length code
-abbrev pub infoRow : List ℕ
-infoRow = 1 ∷ 1 ∷ 1 ∷ 1 ∷ 4 ∷ []
-
--- from byte 1: the identifier and spare bits, in two bytes or, of an extended frame, four
+-- from byte 1: the identifier and spare bits
 abbrev pub idRow : Bool → List ℕ
 idRow false = 11 ∷ 5 ∷ []
 idRow true = 29 ∷ 3 ∷ []
-
-abbrev pub idBytes : Bool → ℕ
-idBytes false = 2
-idBytes true = 4
-
--- then the data
-abbrev pub dataStart : Bool → ℕ
-dataStart format = 1 + idBytes format
 
 -- what a frame says: its format, a remote request, a self-reception, the length code, the identifier's number and the data
 pub record Frame : Type 0 where
@@ -35,22 +23,6 @@ pub record Frame : Type 0 where
   pub id : ℕ
   pub payload : List ℕ
 
--- what a buffer says: the fields of byte 0
-abbrev pub infoOf : List ℕ → List ℕ
-infoOf b = unpack infoRow (getD b 0 0)
-
-abbrev pub extendedOf : List ℕ → Bool
-extendedOf b = eqb (getD (infoOf b) 0 0) 1
-
-abbrev pub remoteOf : List ℕ → Bool
-remoteOf b = eqb (getD (infoOf b) 1 0) 1
-
-abbrev pub ownOf : List ℕ → Bool
-ownOf b = eqb (getD (infoOf b) 3 0) 1
-
-abbrev pub codeOf : List ℕ → ℕ
-codeOf b = getD (infoOf b) 4 0
-
 -- the fields from byte 1, in the row of the frame's own format
 abbrev pub idFields : Bool → List ℕ → List ℕ
 idFields format b = regroup (bytes (idBytes format)) (idRow format) (part b 1 (idBytes format))
@@ -60,13 +32,6 @@ idIn format b = getD (idFields format b) 0 0
 
 abbrev pub idOf : List ℕ → ℕ
 idOf b = idIn (extendedOf b) b
-
--- a remote frame has no data, whatever its code
-unfoldable pub dataLengthOf : List ℕ → ℕ
-dataLengthOf b = cond (remoteOf b) 0 (min (codeOf b) 8)
-
-abbrev pub dataOffsetOf : List ℕ → ℕ
-dataOffsetOf b = dataStart (extendedOf b)
 
 unfoldable pub dataOf : List ℕ → List ℕ
 dataOf b = take (dataLengthOf b) (drop (dataOffsetOf b) b)

@@ -7,7 +7,8 @@ use Rattle.laws.specs.Said.{Said, refuses, gives}
 use Rattle.refusals.specs.Table.{refusalSaid}
 use Rattle.identifiers.specs.Limits.{isExtended, rawOf}
 use Rattle.identifiers.specs.Answers.{newOf}
-use Rattle.frames.specs.Buffer.{extendedOf, idIn}
+use Rattle.frame_info.specs.Info.{extendedOf}
+use Rattle.frames.specs.Buffer.{idIn}
 use Rattle.frames.specs.declared.Identified.{Identified}
 use Rattle.frames.specs.declared.Identified.the-variants.{Read, Refused}
 

@@ -1,9 +1,10 @@
-// Frames: the 13-byte buffer of a frame, read.
+// Frames: the identifier and the data of the 13-byte buffer, read.
 ghost use mathlib.Core.Path.{_≡_};
 ghost use mathlib.Core.Bool.{true, false};
-ghost use Prim.Native.Nat.{_≤_, _<_};
+ghost use Prim.Native.Nat.{_≤_};
 ghost use Rattle.identifiers.specs.Limits.{limitOf};
-ghost use Rattle.frames.specs.Buffer.{extendedOf, remoteOf, ownOf, codeOf, idIn, idOf, dataLengthOf, dataOffsetOf, dataOf, usedOf};
+ghost use Rattle.frame_info.specs.Info.{extendedOf};
+ghost use Rattle.frames.specs.Buffer.{idIn, idOf, dataOf, usedOf};
 ghost use Rattle.frames.specs.Reading.{identifierOf, identifiedSaid};
 use identifiers::ExtendedId;
 use identifiers::ExtendedMade;
@@ -15,46 +16,6 @@ use refusals::Refusal;
 pub enum Identified {
     Read(Id),
     Refused(Refusal),
-}
-
-pub fn is_extended_format(frame: &[u8; 13]) -> bool
-    ensures { λ r. ⌜ r ≡ extendedOf (now (frame .entry)) ⌝ }
-{
-    (frame[0] >> 7) == 1
-}
-
-pub fn is_remote_request(frame: &[u8; 13]) -> bool
-    ensures { λ r. ⌜ r ≡ remoteOf (now (frame .entry)) ⌝ }
-{
-    (frame[0] >> 6) % 2 == 1
-}
-
-pub fn is_self_reception(frame: &[u8; 13]) -> bool
-    ensures { λ r. ⌜ r ≡ ownOf (now (frame .entry)) ⌝ }
-{
-    (frame[0] >> 4) % 2 == 1
-}
-
-pub fn data_length_code(frame: &[u8; 13]) -> usize
-    ensures { λ r. ⌜ r ≡ codeOf (now (frame .entry)) ⌝ }
-{
-    (frame[0] % 16) as usize
-}
-
-pub fn data_length(frame: &[u8; 13]) -> usize
-    ensures { λ r. ⌜ r ≡ dataLengthOf (now (frame .entry)) ⌝ }
-{
-    if is_remote_request(frame) {
-        return 0;
-    }
-    let code = data_length_code(frame);
-    if code < 8 { code } else { 8 }
-}
-
-pub fn data_offset(frame: &[u8; 13]) -> usize
-    ensures { λ r. ⌜ r ≡ dataOffsetOf (now (frame .entry)) ⌝ }
-{
-    if is_extended_format(frame) { 5 } else { 3 }
 }
 
 fn standard_raw(frame: &[u8; 13]) -> u16
@@ -73,7 +34,7 @@ fn extended_raw(frame: &[u8; 13]) -> u32
 pub fn identifier(frame: &[u8; 13]) -> Identified
     ensures { λ r. ⌜ identifiedSaid r ≡ identifierOf (now (frame .entry)) ⌝ }
 {
-    if is_extended_format(frame) {
+    if frame_info::is_extended_format(frame) {
         return match ExtendedId::new(extended_raw(frame)) {
             ExtendedMade::Made(id) => Identified::Read(Id::Extended(id)),
             ExtendedMade::Refused(refusal) => Identified::Refused(refusal),
@@ -89,7 +50,7 @@ pub fn identifier(frame: &[u8; 13]) -> Identified
 pub fn identifier_number(frame: &[u8; 13]) -> u32
     ensures { λ r. ⌜ (r ≡ idOf (now (frame .entry))) × (r ≤ limitOf (extendedOf (now (frame .entry)))) ⌝ }
 {
-    if is_extended_format(frame) {
+    if frame_info::is_extended_format(frame) {
         return extended_raw(frame);
     }
     standard_raw(frame) as u32
@@ -98,8 +59,8 @@ pub fn identifier_number(frame: &[u8; 13]) -> u32
 pub fn data(frame: &[u8; 13]) -> &[u8]
     ensures { λ r. ⌜ now r ≡ dataOf (now (frame .entry)) ⌝ }
 {
-    let start = data_offset(frame);
-    let end = start + data_length(frame);
+    let start = frame_info::data_offset(frame);
+    let end = start + frame_info::data_length(frame);
     let bytes = &frame[..];
     &bytes[start..end]
 }
@@ -108,7 +69,7 @@ pub fn data(frame: &[u8; 13]) -> &[u8]
 pub fn as_slice(frame: &[u8; 13]) -> &[u8]
     ensures { λ r. ⌜ now r ≡ usedOf (now (frame .entry)) ⌝ }
 {
-    let end = data_offset(frame) + data_length(frame);
+    let end = frame_info::data_offset(frame) + frame_info::data_length(frame);
     let bytes = &frame[..];
     &bytes[..end]
 }

@@ -15,7 +15,7 @@ use Rattle.filter_patterns.specs.Meaning.{distinct, within, characterIn, charac
 use Rattle.filters.proofs.Builders.{laid-small}
 use Rattle.filter_patterns.proofs.Table.{row-distinct}
 use Rattle.filter_patterns.proofs.Mapped.{mapped-joined, mapped-take, mapped-drop}
-use Rattle.frames.specs.Buffer.{extendedOf}
+use Rattle.frame_info.specs.Info.{extendedOf}
 use Rattle.shown_words.specs.Fields.{rowFor, shownIn, shownBits, firstFields}
 use Rattle.shown_words.specs.Words.{onesAt, showBy, showOf}
 use Rattle.shown_words.specs.declared.Shown.{Shown}

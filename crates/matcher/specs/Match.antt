@@ -7,7 +7,7 @@ use lib.Dec.{eqb}
 use lib.ListN.{take, drop}
 use Rattle.filter_patterns.specs.Table.{fieldsOf, joined}
 use Rattle.filter_patterns.specs.Meaning.{patternsIn}
-use Rattle.frames.specs.Buffer.{extendedOf}
+use Rattle.frame_info.specs.Info.{extendedOf}
 use Rattle.shown_words.specs.Fields.{rowFor, shownBits, firstFields}
 
 -- a character that is asked for and the one that is shown: `x` is not compared

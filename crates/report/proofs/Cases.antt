@@ -4,7 +4,8 @@ use mathlib.Core.Path.{_≡_, refl}
 use mathlib.Core.List.{List, [], _∷_, _++_}
 use lib.ListN.{replicate}
 use Rattle.filter_patterns.specs.Table.{fieldsOf}
-use Rattle.frames.specs.Buffer.{dataLengthOf, dataOf}
+use Rattle.frame_info.specs.Info.{dataLengthOf}
+use Rattle.frames.specs.Buffer.{dataOf}
 use Rattle.text.specs.Decimal.{digitsOf, decimal}
 use Rattle.frame_file.specs.Reader.{framesFrom, framesAt, filtersFrom, readOf}
 use Rattle.shown_words.specs.Fields.{numbersIn}

@@ -9,7 +9,8 @@ use Rattle.identifiers.specs.Limits.{limitOf}
 use Rattle.filter_patterns.specs.Table.{fieldsOf}
 use Rattle.filter_patterns.specs.Words.{one, wordFrom}
 use Rattle.filters.proofs.Laid.{laid-single-standard, laid-single-extended, laid-dual-standard, laid-dual-extended}
-use Rattle.frames.specs.Buffer.{extendedOf, remoteOf, idOf}
+use Rattle.frame_info.specs.Info.{extendedOf, remoteOf}
+use Rattle.frames.specs.Buffer.{idOf}
 use Rattle.shown_words.specs.Fields.{byteOf, numbersIn}
 use Rattle.shown_words.specs.Words.{onesAt, showBy, showOf}
 use Rattle.shown_words.specs.declared.Shown.{Shown}

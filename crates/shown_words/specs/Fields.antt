@@ -7,7 +7,8 @@ use lib.ListN.{getD}
 use Rattle.laws.specs.Row.{bit}
 use Rattle.filter_patterns.specs.Table.{Filter, singleStandard, singleExtended, dualStandard, dualExtended, fieldsOf}
 use Rattle.filters.specs.Words.{writtenEach}
-use Rattle.frames.specs.Buffer.{remoteOf, idOf, dataOf}
+use Rattle.frame_info.specs.Info.{remoteOf}
+use Rattle.frames.specs.Buffer.{idOf, dataOf}
 
 -- the frame's own format picks the row
 abbrev pub rowFor : Bool → Bool → Filter

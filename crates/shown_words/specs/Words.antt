@@ -8,7 +8,8 @@ use Rattle.laws.specs.Row.{bit}
 use Rattle.filter_patterns.specs.Table.{Filter, fieldsOf, joined}
 use Rattle.filter_patterns.specs.Words.{codeOf}
 use Rattle.filters.specs.Words.{laidOf}
-use Rattle.frames.specs.Buffer.{extendedOf, remoteOf, idOf}
+use Rattle.frame_info.specs.Info.{extendedOf, remoteOf}
+use Rattle.frames.specs.Buffer.{idOf}
 use Rattle.shown_words.specs.Fields.{rowFor, byteOf, numbersIn, firstFields}
 use Rattle.shown_words.specs.declared.Shown.{Shown}
 

@@ -3,7 +3,6 @@ ghost use mathlib.Core.Path.{_≡_};
 ghost use mathlib.Core.Bool.{true, false};
 ghost use Prim.Native.Nat.{_<_, _≤_};
 ghost use lib.ListN.{getD};
-ghost use Rattle.laws.specs.Row.{bit};
 ghost use Rattle.identifiers.specs.Limits.{limitOf};
 ghost use Rattle.shown_words.specs.Words.{showOf, showBy};
 
@@ -59,8 +58,8 @@ pub fn show(frame: &[u8; 13]) -> Shown
     ensures { λ r. ⌜ r ≡ showOf (now (frame .entry)) ⌝ }
 {
     let id = frames::identifier_number(frame);
-    let rtr = octets::one_bit(frames::is_remote_request(frame));
-    if frames::is_extended_format(frame) {
+    let rtr = octets::one_bit(frame_info::is_remote_request(frame));
+    if frame_info::is_extended_format(frame) {
         return show_extended(id, rtr);
     }
     let data = frames::data(frame);

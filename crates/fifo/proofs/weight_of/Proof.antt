@@ -1,7 +1,7 @@
 -- `fifo::weight_of` meets its contract: a mark weighs nothing, and a whole entry by its format and its data. Assumes nothing.
 use native.Mathlib.Omega.{arith}
 use borrow.Author.Needs.{needs}
-use Rattle.frames.proofs.Buffer.{data-bound}
+use Rattle.frame_info.proofs.Info.{data-bound}
 use Rattle.fifo.specs.Ring.{weightOf}
 use Rattle.fifo.proofs.weight_of.Statement.{statement}
 use Rattle.fifo.proofs.weight_of.Tie as tie

@@ -6,7 +6,7 @@ use borrow.Author.Tests.{not-true, not-false}
 use borrow.Author.Needs.{needs}
 use Rattle.laws.specs.Said.{refuses}
 use Rattle.filter_registers.specs.Registers.{registersOf}
-use Rattle.filter_patterns.proofs.Joined.{bad-said, good-said, first-is}
+use Rattle.filter_patterns.proofs.Joined.{bad-said, good-said}
 use Rattle.filter_patterns.proofs.Answers.{answered-refused, answered-made}
 use Rattle.filter_patterns.proofs.compile.Statement.{statement}
 use Rattle.filter_patterns.proofs.compile.Tie as tie
@@ -24,7 +24,7 @@ returns : tie.Need-returns
 returns c =
     let s = c .before .before .before .before .before .args .joined .now in
     let none = sym (c .before .before .before .all-known .ensures) ∙ not-true _ (c .before .before .if1 .taken) in
-    c .refused .ensures ∙ answered-refused _ _ 5 _ (bad-said s none ∙ ap (refuses 5) (sym (c .before .first-bad .ensures ∙ first-is s none)))
+    c .refused .ensures ∙ answered-refused _ _ 5 _ (bad-said s none ∙ ap (refuses 5) (sym (c .before .first-bad .ensures)))
 
 fill-requires : tie.Need-fill-requires
 fill-requires c κs =

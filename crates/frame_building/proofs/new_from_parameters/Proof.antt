@@ -4,7 +4,7 @@ use mathlib.Core.Path.{_≡_, sym, ap, _∙_}
 use native.Mathlib.Omega.{arith}
 use borrow.Author.Needs.{needs}
 use Rattle.identifiers.specs.Limits.{isExtended}
-use Rattle.frames.proofs.Buffer.{start-bound}
+use Rattle.frame_info.proofs.Info.{start-bound}
 use Rattle.frame_building.specs.Building.{buildOf, buildingSaid, asked}
 use Rattle.frame_building.proofs.Judged.{judged-good}
 use Rattle.frame_building.proofs.Buffer.{filled}

@@ -5,7 +5,7 @@ use lib.Seq.{length-take-le}
 use native.Mathlib.Omega.{arith}
 use borrow.Author.Needs.{needs}
 use Rattle.frames.specs.Buffer.{usedOf}
-use Rattle.frames.proofs.Buffer.{used-bound}
+use Rattle.frame_info.proofs.Info.{used-bound}
 use Rattle.frames.proofs.as_slice.Statement.{statement}
 use Rattle.frames.proofs.as_slice.Tie as tie
 

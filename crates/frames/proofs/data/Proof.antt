@@ -6,7 +6,7 @@ use native.Mathlib.Omega.{arith}
 use native.Mathlib.Nat.{add-sub-cancel-left}
 use borrow.Author.Needs.{needs}
 use Rattle.frames.specs.Buffer.{dataOf}
-use Rattle.frames.proofs.Buffer.{used-bound}
+use Rattle.frame_info.proofs.Info.{used-bound}
 use Rattle.frames.proofs.data.Statement.{statement}
 use Rattle.frames.proofs.data.Tie as tie
 

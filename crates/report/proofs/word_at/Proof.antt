@@ -3,7 +3,6 @@ use native.Mathlib.Nat.{add-zero}
 use borrow.Author.Needs.{needs}
 use Rattle.report.proofs.word_at.Statement.{statement}
 use Rattle.report.proofs.word_at.Tie as tie
-use Rattle.octets.proofs.word.Reads as word-reads
 
 shared-slice-read-word : tie.Need-shared-slice-read-word
 shared-slice-read-word c = search needs

@@ -1,7 +1,7 @@
--- `frames::data_offset` meets its contract: the format picks the place. Assumes nothing.
+-- `frame_info::data_offset` meets its contract: the format picks the place. Assumes nothing.
 use borrow.Author.Needs.{needs}
-use Rattle.frames.proofs.data_offset.Statement.{statement}
-use Rattle.frames.proofs.data_offset.Tie as tie
+use Rattle.frame_info.proofs.data_offset.Statement.{statement}
+use Rattle.frame_info.proofs.data_offset.Tie as tie
 
 is-extended-format-requires : tie.Need-is-extended-format-requires
 is-extended-format-requires c κs = search needs

@@ -1,4 +1,4 @@
--- `filter_patterns::all_known` meets its contract: what is judged so far and what is left to judge make the whole. Assumes nothing.
+-- `pattern_characters::all_known` meets its contract: what is judged so far and what is left to judge make the whole. Assumes nothing.
 use Prim.Native.Nat.{_≤_, _-_}
 use mathlib.Core.Path.{_≡_, refl}
 use mathlib.Core.Logic.{inl, inr}
@@ -6,10 +6,10 @@ use mathlib.Core.Bool.{_&&_}
 use lib.ListN.{length, drop}
 use native.Mathlib.Omega.{arith}
 use borrow.Author.Tests.{not-true, not-false}
-use Rattle.filter_patterns.specs.Meaning.{allCharacters}
-use Rattle.filter_patterns.proofs.Joined.{all-turn, all-end}
-use Rattle.filter_patterns.proofs.all_known.Statement.{statement}
-use Rattle.filter_patterns.proofs.all_known.Tie as tie
+use Rattle.pattern_characters.specs.Characters.{allCharacters}
+use Rattle.pattern_characters.proofs.Characters.{all-turn, all-end}
+use Rattle.pattern_characters.proofs.all_known.Statement.{statement}
+use Rattle.pattern_characters.proofs.all_known.Tie as tie
 
 abbrev Inv-loop : tie.InvT-loop
 Inv-loop characters all₀ i₀ all i = (i ≤ length characters) × ((all && allCharacters (drop i characters)) ≡ allCharacters characters)

@@ -1,11 +1,11 @@
--- `frames::is_self_reception` meets its contract: bit 4 of byte 0. Assumes nothing.
+-- `frame_info::is_self_reception` meets its contract: bit 4 of byte 0. Assumes nothing.
 use Prim.Native.Nat.{ℕ, _/_, _%_}
 use mathlib.Core.Path.{_≡_}
 use lib.ListN.{getD}
 use native.Mathlib.Omega.{arith}
 use borrow.Author.Needs.{needs}
-use Rattle.frames.proofs.is_self_reception.Statement.{statement}
-use Rattle.frames.proofs.is_self_reception.Tie as tie
+use Rattle.frame_info.proofs.is_self_reception.Statement.{statement}
+use Rattle.frame_info.proofs.is_self_reception.Tie as tie
 
 element-copy-out-result : tie.Need-element-copy-out-result
 element-copy-out-result c = search needs

@@ -1,9 +1,9 @@
--- `frames::data_length` meets its contract: a remote frame has none, another the smaller of its code and 8. Assumes nothing.
+-- `frame_info::data_length` meets its contract: a remote frame has none, another the smaller of its code and 8. Assumes nothing.
 use native.Mathlib.Omega.{arith}
 use borrow.Author.Needs.{needs}
-use Rattle.frames.specs.Buffer.{dataLengthOf}
-use Rattle.frames.proofs.data_length.Statement.{statement}
-use Rattle.frames.proofs.data_length.Tie as tie
+use Rattle.frame_info.specs.Info.{dataLengthOf}
+use Rattle.frame_info.proofs.data_length.Statement.{statement}
+use Rattle.frame_info.proofs.data_length.Tie as tie
 
 is-remote-request-requires : tie.Need-is-remote-request-requires
 is-remote-request-requires c κs = search needs
