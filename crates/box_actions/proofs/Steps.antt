@@ -25,7 +25,7 @@ use Rattle.receive_box.proofs.Rules.{Good, good-ok, ready, copy-front, release-
 use Rattle.step_answers.specs.declared.Command.{Command}
 use Rattle.step_answers.specs.declared.Command.the-variants as command
 use Rattle.step_answers.specs.Answers.{lost, quietly}
-use Rattle.drain_steps.specs.Step.{atPhase, holding, offering, noticeStep, lookStep, missStep, copyStep, releaseStep, offerStep, finishStep, byPhase, stepOf}
+use Rattle.step_answers.specs.Step.{atPhase, holding, offering, noticeStep, lookStep, missStep, copyStep, releaseStep, offerStep, finishStep, byPhase, stepOf}
 use Rattle.whole_actions.specs.Calls as Calls
 use Rattle.whole_actions.specs.Lists.{offer}
 use Rattle.whole_actions.specs.Calls.{Event, Box, box, call, step, stepped, toNotice, toLook, toMiss, toCopy, toRelease, toOffer, toFinish}

@@ -16,7 +16,7 @@ use Rattle.receive_box.specs.declared.Phase.the-variants as phase
 use Rattle.receive_box.specs.declared.ReceiveBox.{ReceiveBox}
 use Rattle.receive_box.specs.Calls.{arriveOf, takeOf}
 use Rattle.step_answers.specs.Answers.{Told, done, lost, finished, StepSaid}
-use Rattle.drain_steps.specs.Step.{stepOf}
+use Rattle.step_answers.specs.Step.{stepOf}
 use Rattle.drain.specs.Start.{startOf}
 use Rattle.whole_actions.specs.Lists.{arrived, took, noticed, moved, nothing}
 use Rattle.whole_actions.specs.Calls.{Call, arrives, takes, start, step, Event, did, started, quiet, released, refused}

@@ -25,7 +25,7 @@ use Rattle.receive_box.specs.declared.ReceiveBox.{ReceiveBox}
 use Rattle.receive_box.specs.Calls.{arriveOf, takeOf}
 use Rattle.step_answers.specs.declared.Command.{Command}
 use Rattle.step_answers.specs.Answers.{Told, done, lost, finished}
-use Rattle.drain_steps.specs.Step.{stepOf}
+use Rattle.step_answers.specs.Step.{stepOf}
 use Rattle.drain.specs.Start.{startOf}
 use Rattle.drain.specs.Run.{arrives, takes, starts, steps}
 use Rattle.box_script.specs.State.{wordsAt, wordsBytes, entryBytes, recordBytes, entriesBytes, fifoBytes, placesBytes, queueBytes, phaseByte, stateAt, stateBytes}

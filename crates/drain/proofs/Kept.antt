@@ -24,7 +24,7 @@ use Rattle.receive_box.specs.Rules.{recordOf, busOff, isIdle, phaseOk, boxOk}
 use Rattle.receive_box.specs.Calls.{withOf, freshBox, arriveOf, takeOf}
 use Rattle.receive_box.proofs.Rules.{Good, good-ok, ok-good, ready, make-ready, copy-front, make-copy, release-front, make-release, next-on}
 use Rattle.step_answers.specs.declared.Command.{Command}
-use Rattle.drain_steps.specs.Step.{atPhase, holding, offering, afterNotice, firstPhase, noticeStep, lookStep, missStep, copyStep, releaseStep, offerStep, finishStep, byPhase, stepOf}
+use Rattle.step_answers.specs.Step.{atPhase, holding, offering, afterNotice, firstPhase, noticeStep, lookStep, missStep, copyStep, releaseStep, offerStep, finishStep, byPhase, stepOf}
 use Rattle.drain.specs.Start.{begun, startOf}
 use Rattle.drain.specs.Run.{Call, arrives, takes, starts, steps, after, afterAll}
 

@@ -7,7 +7,7 @@ use Rattle.refusals.specs.Table.{refusalSaid}
 use Rattle.words.specs.declared.Words.{Words}
 use Rattle.receive_box.specs.declared.ReceiveBox.{ReceiveBox}
 use Rattle.receive_box.specs.Rules.{isIdle, boxOk}
-use Rattle.drain_steps.specs.Step.{firstPhase}
+use Rattle.step_answers.specs.Step.{firstPhase}
 use Rattle.drain.specs.declared.Starting.{Starting}
 use Rattle.drain.specs.declared.Starting.the-variants as starting
 use Rattle.drain.specs.declared.Started.{Started}

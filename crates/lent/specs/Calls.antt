@@ -12,7 +12,7 @@ use Rattle.receive_box.specs.declared.Arriving.{Arriving}
 use Rattle.receive_box.specs.Calls.{arrivingSaid, arriveOf, takeOf}
 use Rattle.step_answers.specs.declared.StepAnswer.{StepAnswer}
 use Rattle.step_answers.specs.Answers.{stepSaid}
-use Rattle.drain_steps.specs.Step.{stepOf}
+use Rattle.step_answers.specs.Step.{stepOf}
 use Rattle.drain.specs.declared.Starting.{Starting}
 use Rattle.drain.specs.Start.{startingSaid, startOf}
 use Rattle.drain.specs.Run.{Call, arrives, takes, starts, steps, refusedWith}

@@ -1,6 +1,6 @@
 -- `drain_steps::release_step` meets its contract: the front leaves the FIFO. Assumes nothing.
 use borrow.Author.Needs.{needs}
-use Rattle.drain_steps.specs.Step.{releaseStep}
+use Rattle.step_answers.specs.Step.{releaseStep}
 use Rattle.drain_steps.proofs.release_step.Statement.{statement}
 use Rattle.drain_steps.proofs.release_step.Tie as tie
 

@@ -1,8 +1,8 @@
--- `drain_steps::notice_step` meets its contract: BusOff is offered, and the next step is the same if it is lost. Assumes nothing.
+-- `drain_offers::notice_step` meets its contract: BusOff is offered, and the next step is the same if it is lost. Assumes nothing.
 use borrow.Author.Needs.{needs}
-use Rattle.drain_steps.specs.Step.{noticeStep}
-use Rattle.drain_steps.proofs.notice_step.Statement.{statement}
-use Rattle.drain_steps.proofs.notice_step.Tie as tie
+use Rattle.step_answers.specs.Step.{noticeStep}
+use Rattle.drain_offers.proofs.notice_step.Statement.{statement}
+use Rattle.drain_offers.proofs.notice_step.Tie as tie
 
 after-notice-requires : tie.Need-after-notice-requires
 after-notice-requires c κs = search needs
