@@ -1,3 +1,3 @@
-pub mod Buffer
+pub mod OwnFormat
 pub mod Reading
 pub mod Only

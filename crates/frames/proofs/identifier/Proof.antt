@@ -3,7 +3,7 @@ use mathlib.Core.Path.{sym, ap, _∙_}
 use mathlib.Core.Bool.{true, false}
 use borrow.Author.Needs.{needs}
 use Rattle.identifiers.specs.Answers.{standardSaid, extendedSaid}
-use Rattle.frames.proofs.Buffer.{identified}
+use Rattle.frames.proofs.OwnFormat.{identified}
 use Rattle.frames.proofs.identifier.Statement.{statement}
 use Rattle.frames.proofs.identifier.Tie as tie
 

@@ -2,7 +2,7 @@
 use mathlib.Core.Path.{sym, _∙_}
 use mathlib.Core.Bool.{true, false}
 use borrow.Author.Needs.{needs}
-use Rattle.frames.proofs.Buffer.{numbered}
+use Rattle.frames.proofs.OwnFormat.{numbered}
 use Rattle.frames.proofs.identifier_number.Statement.{statement}
 use Rattle.frames.proofs.identifier_number.Tie as tie
 

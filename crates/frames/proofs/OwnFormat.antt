@@ -1,4 +1,4 @@
--- What the identifier is read from. Assumes nothing.
+-- The identifier that is read is that of the frame's own format. Assumes nothing.
 use Prim.Native.Nat.{ℕ, _≤_}
 use mathlib.Core.Path.{_≡_, ap, sym, _∙_}
 use mathlib.Core.Bool.{Bool}
