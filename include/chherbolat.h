@@ -1,4 +1,4 @@
-/* The exports of the archives libexports_….a, one for each part. docs/ABI.md says what each gives and refuses. A slice is
+/* The exports of the archives libabi_….a, one for each part. docs/ABI.md says what each gives and refuses. A slice is
    a pointer and a length. */
 #ifndef CHHERBOLAT_H
 #define CHHERBOLAT_H

@@ -3,19 +3,19 @@
 use std::{env, path::Path};
 
 const ARCHIVES: [&str; 11] = [
-    "libexports_identifiers.a",
-    "libexports_building.a",
-    "libexports_info.a",
-    "libexports_frames.a",
-    "libexports_filters.a",
-    "libexports_masks.a",
-    "libexports_list.a",
-    "libexports_matcher.a",
-    "libexports_files.a",
-    "libexports_report.a",
-    "libexports_decisions.a",
+    "libabi_identifiers.a",
+    "libabi_building.a",
+    "libabi_frame_info.a",
+    "libabi_frames.a",
+    "libabi_filters.a",
+    "libabi_masks.a",
+    "libabi_list.a",
+    "libabi_matcher.a",
+    "libabi_files.a",
+    "libabi_report.a",
+    "libabi_decisions.a",
 ];
-const BOX_ARCHIVE: &str = "libexports_box.a";
+const BOX_ARCHIVE: &str = "libabi_box.a";
 
 fn main() {
     println!("cargo:rerun-if-env-changed=RATTLE_LIB_DIR");

@@ -13,21 +13,21 @@ use Rattle.laws.specs.Tabulate.{part}
 use Rattle.refusals.specs.Table.{numberOf}
 use Rattle.refusals.specs.declared.Refusal.{Refusal}
 use Rattle.refusals.specs.declared.Refusal.the-variants.{IdentifierAboveLimit, InvalidDataLength, NonCompliantDlc, PatternLength, PatternByte, OutputTooShort, FilterKind, DrainRuns, NoDrainRuns, BrokenState, FileEnds, CountAboveLimit, BytesAfterEnd, WrongLength, EmptyList}
-use Rattle.records.specs.declared.Record.{Record}
-use Rattle.queue.specs.declared.Queue.{Queue}
-use Rattle.queue.specs.Ring as Q
-use Rattle.fifo.specs.declared.Entry.{Entry}
-use Rattle.fifo.specs.declared.Fifo.{Fifo}
-use Rattle.fifo.specs.Ring as F
-use Rattle.fifo.specs.Ring.{Outcome}
-use Rattle.words.specs.declared.Words.{Words}
-use Rattle.receive_box.specs.declared.ReceiveBox.{ReceiveBox}
-use Rattle.receive_box.specs.Calls.{arriveOf, takeOf}
-use Rattle.step_answers.specs.declared.Command.{Command}
-use Rattle.step_answers.specs.Answers.{Told, done, lost, finished}
-use Rattle.step_answers.specs.Step.{stepOf}
-use Rattle.drain.specs.Start.{startOf}
-use Rattle.drain.specs.Run.{arrives, takes, starts, steps}
+use Rattle.box_records.specs.declared.Record.{Record}
+use Rattle.box_queue.specs.declared.Queue.{Queue}
+use Rattle.box_queue.specs.Ring as Q
+use Rattle.box_fifo.specs.declared.Entry.{Entry}
+use Rattle.box_fifo.specs.declared.Fifo.{Fifo}
+use Rattle.box_fifo.specs.Ring as F
+use Rattle.box_fifo.specs.Ring.{Outcome}
+use Rattle.box_words.specs.declared.Words.{Words}
+use Rattle.box_state.specs.declared.ReceiveBox.{ReceiveBox}
+use Rattle.box_state.specs.Calls.{arriveOf, takeOf}
+use Rattle.box_step_answers.specs.declared.Command.{Command}
+use Rattle.box_step_answers.specs.Answers.{Told, done, lost, finished}
+use Rattle.box_step_answers.specs.Step.{stepOf}
+use Rattle.box_drain.specs.Start.{startOf}
+use Rattle.box_drain.specs.Run.{arrives, takes, starts, steps}
 use Rattle.box_script.specs.State.{wordsAt, wordsBytes, entryBytes, recordBytes, entriesBytes, fifoBytes, placesBytes, queueBytes, phaseByte, stateAt, stateBytes}
 use Rattle.box_script.specs.Format.{Asked, calls, loads, tells, callAt}
 use Rattle.box_script.specs.Answers.{arrivalBytes, takeBytes, startBytes, stepBytes, callAnswer, answerOf, nextOf, answersOf, answerLength}

@@ -12,7 +12,7 @@ use native.Mathlib.Omega.{arith}
 use Rattle.laws.specs.Bits.{bitAt}
 use Rattle.laws.proofs.Bits.{bit-lt}
 use Rattle.filter_registers.specs.Registers.{maskIn}
-use Rattle.filter_patterns.specs.Table.{run}
+use Rattle.filter_compilers.specs.Table.{run}
 use Rattle.filter_list.specs.Answers.{idPositions, onesAmong, throughOf}
 
 -- a digit's ones

@@ -6,7 +6,7 @@ use mathlib.Core.List.{List, [], _∷_}
 use lib.Dec.{eqb}
 use lib.ListN.{replicate}
 use Rattle.laws.specs.Bits.{bitAt}
-use Rattle.filter_patterns.specs.Table.{Filter, singleStandard, singleExtended}
+use Rattle.filter_compilers.specs.Table.{Filter, singleStandard, singleExtended}
 
 -- each entry has this bit at a position
 abbrev pub allHave : ℕ → ℕ → List ℕ → Bool

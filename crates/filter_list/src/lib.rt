@@ -8,8 +8,8 @@ ghost use Rattle.refusals.specs.Table.{refusalSaid};
 ghost use Rattle.filter_registers.specs.Registers.{maskIn};
 ghost use Rattle.filter_list.specs.Pattern.{characterAt, characterBy, downFrom};
 ghost use Rattle.filter_list.specs.Answers.{firstAbove, registersFor, throughOf, listedOf, leaves, listedSaid};
-use filters::SingleExtendedFilter;
-use filters::SingleStandardFilter;
+use filter_types::SingleExtendedFilter;
+use filter_types::SingleStandardFilter;
 use refusals::Refusal;
 
 pub enum Listing {

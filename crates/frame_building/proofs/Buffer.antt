@@ -11,7 +11,7 @@ use native.Mathlib.Omega.{arith}
 use Rattle.laws.specs.Row.{pack, bytes}
 use Rattle.laws.proofs.Row.{unpack-length}
 use Rattle.frame_info.specs.Info.{idBytes, dataStart}
-use Rattle.frames.specs.Buffer.{Frame, idRow}
+use Rattle.frame_reading.specs.Buffer.{Frame, idRow}
 use Rattle.frame_building.specs.Buffer.{infoByte, idBytesOf, bufferOf}
 
 drop-zeros : (n k : ℕ) → drop k (replicate n zero) ≡ replicate (n - k) zero

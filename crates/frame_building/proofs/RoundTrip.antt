@@ -15,9 +15,9 @@ use Rattle.laws.specs.Tabulate.{part, Bytes}
 use Rattle.laws.proofs.Row.{pack-unpack, regroup-back}
 use Rattle.laws.proofs.Tabulate.{part-is}
 use Rattle.frame_info.specs.Info.{infoRow, idBytes, infoOf, extendedOf, remoteOf, ownOf, codeOf, dataLengthOf, dataOffsetOf}
-use Rattle.frames.specs.Buffer.{Frame, idRow, frameOf, idFields, idOf, dataOf}
+use Rattle.frame_reading.specs.Buffer.{Frame, idRow, frameOf, idFields, idOf, dataOf}
 use Rattle.frame_info.proofs.Info.{start-bound, data-bound, used-bound}
-use Rattle.frames.proofs.Reading.{row-width, two-fields, bytes-row-fit, id-within}
+use Rattle.frame_reading.proofs.Reading.{row-width, two-fields, bytes-row-fit, id-within}
 use Rattle.frame_building.specs.Buffer.{infoByte, idBytesOf, bufferOf}
 use Rattle.frame_building.specs.Building.{judged, buildOf}
 use Rattle.frame_building.specs.Clean.{Clean}

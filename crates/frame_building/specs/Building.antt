@@ -9,7 +9,7 @@ use Rattle.laws.specs.Said.{Said, refuses, gives, accepted}
 use Rattle.refusals.specs.Table.{refusalSaid}
 use Rattle.identifiers.specs.declared.Id.{Id}
 use Rattle.identifiers.specs.Limits.{limitOf, isExtended, rawOf}
-use Rattle.frames.specs.Buffer.{Frame}
+use Rattle.frame_reading.specs.Buffer.{Frame}
 use Rattle.frame_building.specs.Buffer.{bufferOf}
 use Rattle.frame_building.specs.declared.Building.{Building}
 use Rattle.frame_building.specs.declared.Building.the-variants.{Made, Refused}

@@ -6,7 +6,7 @@ use mathlib.Core.Bool.{true}
 use mathlib.Core.List.{List}
 use lib.ListN.{getD, drop, replicate}
 use Rattle.frame_info.specs.Info.{infoOf, extendedOf, remoteOf, codeOf, dataOffsetOf, dataLengthOf}
-use Rattle.frames.specs.Buffer.{idFields}
+use Rattle.frame_reading.specs.Buffer.{idFields}
 
 pub record Clean (b : List ℕ) : Type 0 where
   pub reserved-bit : getD (infoOf b) 2 0 ≡ 0

@@ -7,15 +7,15 @@ use lib.ListN.{replicate}
 use Rattle.laws.specs.Said.{Said, refuses, gives}
 use Rattle.laws.specs.Tabulate.{part}
 use Rattle.identifiers.specs.Answers.{baseOf}
-use Rattle.filter_patterns.specs.Table.{singleStandard, dualStandard, dualExtended}
-use Rattle.filter_patterns.specs.Answers.{compileOf}
-use Rattle.filters.specs.Answers.{codeMaskOf, bothWithin}
-use Rattle.frames.specs.Buffer.{Frame, dataOf}
+use Rattle.filter_compilers.specs.Table.{singleStandard, dualStandard, dualExtended}
+use Rattle.filter_compilers.specs.Answers.{compileOf}
+use Rattle.filter_types.specs.Answers.{codeMaskOf, bothWithin}
+use Rattle.frame_reading.specs.Buffer.{Frame, dataOf}
 use Rattle.frame_building.specs.Buffer.{bufferOf}
 use Rattle.frame_building.specs.Building.{buildOf, judged}
-use Rattle.matcher.specs.Words.{matchOf}
-use Rattle.box_actions.specs.P12.{boxBefore, drainDid, boxAfter, queuedIn, wholesIn, lostBy}
-use Rattle.answers.specs.Answers.{flagSaid}
+use Rattle.filter_matcher.specs.Words.{matchOf}
+use Rattle.box_theorem.specs.P12.{boxBefore, drainDid, boxAfter, queuedIn, wholesIn, lostBy}
+use Rattle.abi_answers.specs.Answers.{flagSaid}
 
 -- an answer, and bytes that it comes with
 abbrev pub Answered : Type 0

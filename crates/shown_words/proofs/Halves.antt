@@ -3,8 +3,8 @@ use Prim.Native.Nat.{ℕ}
 use mathlib.Core.Path.{_≡_, refl}
 use lib.Dec.{T}
 use lib.ListN.{length, take, drop}
-use Rattle.filter_patterns.specs.Table.{Filter, singleStandard, singleExtended, dualStandard, dualExtended, fieldsOf, joined}
-use Rattle.filter_patterns.specs.Meaning.{distinct, within}
+use Rattle.filter_compilers.specs.Table.{Filter, singleStandard, singleExtended, dualStandard, dualExtended, fieldsOf, joined}
+use Rattle.filter_compilers.specs.Meaning.{distinct, within}
 use Rattle.shown_words.specs.Fields.{numbersIn, firstFields}
 
 -- ---- each row, by tests that compute over the table

@@ -6,11 +6,11 @@ use mathlib.Core.List.{List}
 use native.Mathlib.Omega.{arith}
 use Rattle.laws.specs.Row.{bit}
 use Rattle.identifiers.specs.Limits.{limitOf}
-use Rattle.filter_patterns.specs.Table.{fieldsOf}
-use Rattle.filter_patterns.specs.Words.{one, wordFrom}
-use Rattle.filters.proofs.Laid.{laid-single-standard, laid-single-extended, laid-dual-standard, laid-dual-extended}
+use Rattle.filter_compilers.specs.Table.{fieldsOf}
+use Rattle.filter_compilers.specs.Words.{one, wordFrom}
+use Rattle.filter_types.proofs.Laid.{laid-single-standard, laid-single-extended, laid-dual-standard, laid-dual-extended}
 use Rattle.frame_info.specs.Info.{extendedOf, remoteOf}
-use Rattle.frames.specs.Buffer.{idOf}
+use Rattle.frame_reading.specs.Buffer.{idOf}
 use Rattle.shown_words.specs.Fields.{byteOf, numbersIn}
 use Rattle.shown_words.specs.Words.{onesAt, showBy, showOf}
 use Rattle.shown_words.specs.declared.Shown.{Shown}

@@ -5,10 +5,10 @@ use mathlib.Core.Bool.{Bool, true, false}
 use mathlib.Core.List.{List, [], _∷_}
 use lib.ListN.{getD}
 use Rattle.laws.specs.Row.{bit}
-use Rattle.filter_patterns.specs.Table.{Filter, singleStandard, singleExtended, dualStandard, dualExtended, fieldsOf}
-use Rattle.filters.specs.Words.{writtenEach}
+use Rattle.filter_compilers.specs.Table.{Filter, singleStandard, singleExtended, dualStandard, dualExtended, fieldsOf}
+use Rattle.filter_types.specs.Words.{writtenEach}
 use Rattle.frame_info.specs.Info.{remoteOf}
-use Rattle.frames.specs.Buffer.{idOf, dataOf}
+use Rattle.frame_reading.specs.Buffer.{idOf, dataOf}
 
 -- the frame's own format picks the row
 abbrev pub rowFor : Bool → Bool → Filter

@@ -5,11 +5,11 @@ use mathlib.Core.Bool.{Bool, true, false}
 use mathlib.Core.List.{List}
 use lib.ListN.{length, take, drop, replicate}
 use Rattle.laws.specs.Row.{bit}
-use Rattle.filter_patterns.specs.Table.{Filter, fieldsOf, joined}
-use Rattle.filter_patterns.specs.Words.{codeOf}
-use Rattle.filters.specs.Words.{laidOf}
+use Rattle.filter_compilers.specs.Table.{Filter, fieldsOf, joined}
+use Rattle.filter_compilers.specs.Words.{codeOf}
+use Rattle.filter_types.specs.Words.{laidOf}
 use Rattle.frame_info.specs.Info.{extendedOf, remoteOf}
-use Rattle.frames.specs.Buffer.{idOf}
+use Rattle.frame_reading.specs.Buffer.{idOf}
 use Rattle.shown_words.specs.Fields.{rowFor, byteOf, numbersIn, firstFields}
 use Rattle.shown_words.specs.declared.Shown.{Shown}
 

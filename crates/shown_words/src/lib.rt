@@ -57,11 +57,11 @@ fn show_extended(id: u32, rtr: u32) -> Shown
 pub fn show(frame: &[u8; 13]) -> Shown
     ensures { λ r. ⌜ r ≡ showOf (now (frame .entry)) ⌝ }
 {
-    let id = frames::identifier_number(frame);
+    let id = frame_reading::identifier_number(frame);
     let rtr = octets::one_bit(frame_info::is_remote_request(frame));
     if frame_info::is_extended_format(frame) {
         return show_extended(id, rtr);
     }
-    let data = frames::data(frame);
+    let data = frame_reading::data(frame);
     show_standard(id, rtr, byte_at(data, 0), byte_at(data, 1))
 }

@@ -30,14 +30,14 @@ pub const LIBRARY: Face = Face {
     receive: chherbolat_receive,
 };
 
-#[link(name = "exports_identifiers", kind = "static")]
+#[link(name = "abi_identifiers", kind = "static")]
 unsafe extern "C" {
     fn chherbolat_standard_id_new(raw: u16) -> Answer;
     fn chherbolat_extended_id_new(raw: u32) -> Answer;
     fn chherbolat_extended_id_standard_id(raw: u32) -> Answer;
 }
 
-#[link(name = "exports_building", kind = "static")]
+#[link(name = "abi_building", kind = "static")]
 unsafe extern "C" {
     fn chherbolat_new_from_parameters(
         extended: bool,
@@ -68,7 +68,7 @@ unsafe extern "C" {
     ) -> Answer;
 }
 
-#[link(name = "exports_info", kind = "static")]
+#[link(name = "abi_frame_info", kind = "static")]
 unsafe extern "C" {
     fn chherbolat_is_extended_format(frame: *const u8, frame_length: usize) -> Answer;
     fn chherbolat_is_remote_request(frame: *const u8, frame_length: usize) -> Answer;
@@ -78,14 +78,14 @@ unsafe extern "C" {
     fn chherbolat_data_offset(frame: *const u8, frame_length: usize) -> Answer;
 }
 
-#[link(name = "exports_frames", kind = "static")]
+#[link(name = "abi_frames", kind = "static")]
 unsafe extern "C" {
     fn chherbolat_identifier(frame: *const u8, frame_length: usize) -> Answer;
     fn chherbolat_data(frame: *const u8, frame_length: usize, out: *mut u8, out_length: usize) -> Answer;
     fn chherbolat_as_slice(frame: *const u8, frame_length: usize, out: *mut u8, out_length: usize) -> Answer;
 }
 
-#[link(name = "exports_matcher", kind = "static")]
+#[link(name = "abi_matcher", kind = "static")]
 unsafe extern "C" {
     fn chherbolat_matcher_accepts(
         kind: u8,
@@ -96,7 +96,7 @@ unsafe extern "C" {
     ) -> Answer;
 }
 
-#[link(name = "exports_decisions", kind = "static")]
+#[link(name = "abi_decisions", kind = "static")]
 unsafe extern "C" {
     fn chherbolat_transmit(status: u32, error_passive: bool) -> Answer;
     fn chherbolat_poll(status: u32, error_passive: bool, in_flight: bool) -> Answer;

@@ -2,7 +2,7 @@
 use mathlib.Core.Path.{ap}
 use native.Mathlib.Omega.{arith}
 use borrow.Author.Needs.{needs}
-use Rattle.filter_patterns.specs.Table.{fieldsOf}
+use Rattle.filter_compilers.specs.Table.{fieldsOf}
 use Rattle.filter_list.specs.Answers.{idPositions}
 use Rattle.filter_list.proofs.Counted.{counted-le, through-is}
 use Rattle.filter_list.proofs.through.Statement.{statement}

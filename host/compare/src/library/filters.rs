@@ -12,7 +12,7 @@ pub const FILTERS: Filters = Filters {
     dual_extended_filter_new_from_code_mask: chherbolat_dual_extended_filter_new_from_code_mask,
 };
 
-#[link(name = "exports_filters", kind = "static")]
+#[link(name = "abi_filters", kind = "static")]
 unsafe extern "C" {
     fn chherbolat_single_standard_filter_new(
         id: *const u8,
@@ -58,7 +58,7 @@ unsafe extern "C" {
     ) -> Answer;
 }
 
-#[link(name = "exports_masks", kind = "static")]
+#[link(name = "abi_masks", kind = "static")]
 unsafe extern "C" {
     fn chherbolat_single_standard_filter_new_from_code_mask(
         id_code: u16,

@@ -3,7 +3,7 @@ use oracle::{answer::Answer, lists::FromList};
 
 pub const FROM_LIST: FromList = chherbolat_filter_from_list;
 
-#[link(name = "exports_list", kind = "static")]
+#[link(name = "abi_list", kind = "static")]
 unsafe extern "C" {
     fn chherbolat_filter_from_list(
         extended: bool,

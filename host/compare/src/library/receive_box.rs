@@ -6,10 +6,10 @@ pub const MODEL: (&str, BoxScript) = ("the host's model", receive_box::box_scrip
 #[cfg(box_archive)]
 pub const BOX: (&str, BoxScript) = ("ours", chherbolat_box_script);
 #[cfg(not(box_archive))]
-pub const BOX: (&str, BoxScript) = ("the host's model, for lack of libexports_box.a", receive_box::box_script);
+pub const BOX: (&str, BoxScript) = ("the host's model, for lack of libabi_box.a", receive_box::box_script);
 
 #[cfg(box_archive)]
-#[link(name = "exports_box", kind = "static")]
+#[link(name = "abi_box", kind = "static")]
 unsafe extern "C" {
     fn chherbolat_box_script(
         script: *const u8,

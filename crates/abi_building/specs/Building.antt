@@ -1,0 +1,34 @@
+-- Building by plain numbers: an identifier is its format and its number, the frame a lent slice that must be 13 bytes long.
+-- Source: the outline, "What changes shape"; docs/ABI.md.
+use Prim.Native.Nat.{ℕ}
+use mathlib.Core.Bool.{Bool, true, false, cond}
+use mathlib.Core.List.{List}
+use lib.Dec.{leb}
+use lib.ListN.{length}
+use Rattle.laws.specs.Said.{Said}
+use Rattle.refusals.specs.declared.Refusal.the-variants.{IdentifierAboveLimit}
+use Rattle.identifiers.specs.declared.Id.the-variants.{Standard, Extended}
+use Rattle.frame_reading.specs.Buffer.{Frame}
+use Rattle.frame_reading.specs.declared.Identified.{Identified}
+use Rattle.frame_reading.specs.declared.Identified.the-variants.{Read, Refused}
+use Rattle.frame_building.specs.Building.{buildOf}
+use Rattle.abi_answers.specs.Answers.{delivering, deliveryLeaves}
+
+-- the identifier of a format and a number: a standard number that no u16 holds is none
+abbrev pub idFrom : Bool → ℕ → Identified
+idFrom true raw = Read (Extended (record { 0 = raw }))
+idFrom false raw = cond (leb raw 0xFFFF) (Read (Standard (record { 0 = raw }))) (Refused (IdentifierAboveLimit 0))
+
+abbrev pub plain : Bool → ℕ → Bool → Bool → ℕ → List ℕ → Frame
+plain extended id remote own code payload =
+    record { extended = extended; remote = remote; own = own; code = code; id = id; payload = payload }
+
+abbrev pub plainData : Bool → ℕ → Bool → List ℕ → Frame
+plainData extended id own payload = plain extended id false own (length payload) payload
+
+-- building into a lent frame, whose place among the arguments is given
+abbrev pub building : ℕ → List ℕ → Frame → Said ℕ
+building argument frame f = delivering 13 argument frame (buildOf f)
+
+abbrev pub buildingLeaves : ℕ → List ℕ → Frame → List ℕ
+buildingLeaves argument frame f = deliveryLeaves 13 argument frame (buildOf f)

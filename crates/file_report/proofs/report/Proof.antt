@@ -1,0 +1,61 @@
+-- `file_report::report` meets its contract: the text is that of what the reader answered. Assumes nothing.
+use mathlib.Core.Path.{sym, ap, ap₂, _∙_}
+use borrow.Author.Needs.{needs}
+use Rattle.file_reading.specs.Reader.{readingSaid}
+use Rattle.file_report.specs.Text.{badText}
+use Rattle.file_report.proofs.Frames.{sections, text-is, same-text}
+use Rattle.file_report.proofs.report.Statement.{statement}
+use Rattle.file_report.proofs.report.Tie as tie
+
+read-file-requires : tie.Need-read-file-requires
+read-file-requires c κs = search needs
+
+enum-known-reading : tie.Need-enum-known-reading
+enum-known-reading c = search needs
+
+report-good-requires : tie.Need-report-good-requires
+report-good-requires c κs = sections (c .before .before .before .before .before .before .before .args .file .now) _ _ _ _ (sym (c .before .before .before .before .read-file .ensures) ∙ ap readingSaid (c .before .before .reading .given .1))
+
+enum-known-reading-2 : tie.Need-enum-known-reading-2
+enum-known-reading-2 c = search needs
+
+number-requires : tie.Need-number-requires
+number-requires c κs = search needs
+
+cast-report-bad : tie.Need-cast-report-bad
+cast-report-bad c = search needs
+
+carried-requires : tie.Need-carried-requires
+carried-requires c κs = search needs
+
+report-bad-requires : tie.Need-report-bad-requires
+report-bad-requires c κs = search needs
+
+same-length : tie.Need-same-length
+same-length c = search needs
+
+returns : tie.Need-returns
+returns c = same-text _ _ (c .before .before .before .before .before .before .before .before .before .before .args .out .now) _ _ (text-is (c .before .before .before .before .before .before .before .before .before .before .args .file .now) _ (sym (c .before .before .before .before .before .before .before .read-file .ensures) ∙ ap readingSaid (c .before .before .before .before .before .reading .given .1))) (c .before .before .report-good .ensures)
+
+same-length-2 : tie.Need-same-length-2
+same-length-2 c = search needs
+
+returns-2 : tie.Need-returns-2
+returns-2 c = same-text _ _ (c .before .before .before .before .before .before .before .before .before .before .before .before .args .out .now) _ _ (text-is (c .before .before .before .before .before .before .before .before .before .before .before .before .args .file .now) _ (sym (c .before .before .before .before .before .before .before .before .before .read-file .ensures) ∙ ap readingSaid (c .before .before .before .before .before .before .before .reading2 .given .1)) ∙ ap₂ badText (sym (c .before .before .before .before .before .number .ensures)) (sym (c .before .before .before .before .carried .ensures))) (c .before .before .report-bad .ensures)
+
+pub report-spec : {M : Type 1} → statement M
+report-spec =
+    tie.close
+    (tie.spec
+    read-file-requires
+    enum-known-reading
+    report-good-requires
+    enum-known-reading-2
+    number-requires
+    cast-report-bad
+    carried-requires
+    report-bad-requires
+    same-length
+    returns
+    same-length-2
+    returns-2)

@@ -1,0 +1,34 @@
+-- Which frames a filter accepts, position by position over the one table.
+-- Source: ESP32-C3 manual, TWAI chapter, acceptance filter; the outline, "The matcher".
+use Prim.Native.Nat.{ℕ}
+use mathlib.Core.Bool.{Bool, true, _&&_, _||_}
+use mathlib.Core.List.{List, [], _∷_}
+use lib.Dec.{eqb}
+use lib.ListN.{take, drop}
+use Rattle.filter_compilers.specs.Table.{fieldsOf, joined}
+use Rattle.filter_compilers.specs.Meaning.{patternsIn}
+use Rattle.frame_info.specs.Info.{extendedOf}
+use Rattle.shown_words.specs.Fields.{rowFor, shownBits, firstFields}
+
+-- a character that is asked for and the one that is shown: `x` is not compared
+abbrev pub fits : ℕ → ℕ → Bool
+fits asked shown = eqb asked 120 || eqb asked shown
+
+unfoldable pub allFit : List ℕ → List ℕ → Bool
+allFit [] shown = true
+allFit (c ∷ asked) [] = true
+allFit (c ∷ asked) (s ∷ shown) = fits c s && allFit asked shown
+
+-- single: all fields fit; dual: those of either half do
+unfoldable pub fitsEither : Bool → ℕ → List (List ℕ) → List (List ℕ) → Bool
+fitsEither dual n asked shown =
+    allFit (joined (take n asked)) (joined (take n shown)) || (dual && allFit (joined (drop n asked)) (joined (drop n shown)))
+
+-- a filter's characters, field by field, against what a frame shows in these fields
+abbrev pub fitsFilter : Bool → Bool → List (List ℕ) → List ℕ → Bool
+fitsFilter dual format asked frame = fitsEither dual (firstFields (rowFor dual format)) asked (shownBits (rowFor dual format) frame)
+
+-- at the positions that the row's fields name, the registers' characters: `x` where the mask register has 1
+unfoldable pub acceptsOf : Bool → List ℕ → List ℕ → Bool
+acceptsOf dual registers frame =
+    fitsFilter dual (extendedOf frame) (patternsIn registers (fieldsOf (rowFor dual (extendedOf frame)))) frame

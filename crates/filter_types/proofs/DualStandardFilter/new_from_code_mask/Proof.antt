@@ -1,0 +1,62 @@
+-- `filter_types::DualStandardFilter::new_from_code_mask` meets its contract: limits first, then the words of both. Assumes nothing.
+use mathlib.Core.Path.{sym, _∙_}
+use mathlib.Core.Bool.{false}
+use native.Mathlib.Omega.{arith}
+use borrow.Author.Tests.{not-true, not-false}
+use borrow.Author.Needs.{needs}
+use Rattle.laws.proofs.Bools.{and-last-no, and-first-no, and-yes}
+use Rattle.filter_types.specs.Answers.{bothWithin}
+use Rattle.filter_types.proofs.Answers.{code-mask-refused, code-mask-made, both-within}
+use Rattle.filter_types.proofs.DualStandardFilter.new_from_code_mask.Statement.{statement}
+use Rattle.filter_types.proofs.DualStandardFilter.new_from_code_mask.Tie as tie
+
+standard-within-requires : tie.Need-standard-within-requires
+standard-within-requires c κs = search needs
+
+refused-requires : tie.Need-refused-requires
+refused-requires c κs = search needs
+
+returns : tie.Need-returns
+returns c = c .refused .ensures ∙ code-mask-refused _ _ _ _ (and-first-no _ _ (sym (c .before .before .standard-within .ensures) ∙ not-true _ (c .before .if1 .taken)))
+
+standard-within-requires-2 : tie.Need-standard-within-requires-2
+standard-within-requires-2 c κs = search needs
+
+refused-requires-2 : tie.Need-refused-requires-2
+refused-requires-2 c κs = search needs
+
+returns-2 : tie.Need-returns-2
+returns-2 c = c .refused2 .ensures ∙ code-mask-refused _ _ _ _ (and-last-no (bothWithin false (c .before .before .before .before .before .args .first-id-code .0) (c .before .before .before .before .before .args .first-id-mask .0)) _ (sym (c .before .before .standard-within2 .ensures) ∙ not-true _ (c .before .if2 .taken)))
+
+dual-standard-word-requires : tie.Need-dual-standard-word-requires
+dual-standard-word-requires c κs =
+    let p = both-within false (c .before .before .before .before .args .first-id-code .0) (c .before .before .before .before .args .first-id-mask .0) (sym (c .before .before .before .standard-within .ensures) ∙ not-false _ (c .before .before .if1 .left)) in
+    let q = both-within false (c .before .before .before .before .args .second-id-code .0) (c .before .before .before .before .args .second-id-mask .0) (sym (c .before .standard-within2 .ensures) ∙ not-false _ (c .if2 .left)) in
+    (omega arith, omega arith)
+
+dual-standard-word-requires-2 : tie.Need-dual-standard-word-requires-2
+dual-standard-word-requires-2 c κs =
+    let p = both-within false (c .before .before .before .before .before .args .first-id-code .0) (c .before .before .before .before .before .args .first-id-mask .0) (sym (c .before .before .before .before .standard-within .ensures) ∙ not-false _ (c .before .before .before .if1 .left)) in
+    let q = both-within false (c .before .before .before .before .before .args .second-id-code .0) (c .before .before .before .before .before .args .second-id-mask .0) (sym (c .before .before .standard-within2 .ensures) ∙ not-false _ (c .before .if2 .left)) in
+    (omega arith, omega arith)
+
+made-requires : tie.Need-made-requires
+made-requires c κs = search needs
+
+returns-3 : tie.Need-returns-3
+returns-3 c = c .made .ensures ∙ code-mask-made _ _ _ _ _ _ (and-yes _ _ (sym (c .before .before .before .before .before .before .standard-within .ensures) ∙ not-false _ (c .before .before .before .before .before .if1 .left)) (sym (c .before .before .before .before .standard-within2 .ensures) ∙ not-false _ (c .before .before .before .if2 .left))) (c .before .before .dual-standard-word .ensures) (c .before .dual-standard-word2 .ensures)
+
+pub new-from-code-mask-spec : {M : Type 1} → statement M
+new-from-code-mask-spec =
+    tie.close
+    (tie.spec
+    standard-within-requires
+    refused-requires
+    returns
+    standard-within-requires-2
+    refused-requires-2
+    returns-2
+    dual-standard-word-requires
+    dual-standard-word-requires-2
+    made-requires
+    returns-3)
