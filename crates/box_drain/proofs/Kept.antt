@@ -23,8 +23,8 @@ use Rattle.box_state.specs.declared.ReceiveBox.{ReceiveBox}
 use Rattle.box_state.specs.Rules.{recordOf, busOff, isIdle, phaseOk, boxOk}
 use Rattle.box_state.specs.Calls.{withOf, freshBox, arriveOf, takeOf}
 use Rattle.box_state.proofs.Rules.{Good, good-ok, ok-good, ready, make-ready, copy-front, make-copy, release-front, make-release, next-on}
-use Rattle.box_step_answers.specs.declared.Command.{Command}
-use Rattle.box_step_answers.specs.Step.{atPhase, holding, offering, afterNotice, firstPhase, noticeStep, lookStep, missStep, copyStep, releaseStep, offerStep, finishStep, byPhase, stepOf}
+use Rattle.box_drain.specs.declared.Command.{Command}
+use Rattle.box_drain.specs.Step.{atPhase, holding, offering, afterNotice, firstPhase, noticeStep, lookStep, missStep, copyStep, releaseStep, offerStep, finishStep, byPhase, stepOf}
 use Rattle.box_drain.specs.Start.{begun, startOf}
 use Rattle.box_drain.specs.Run.{Call, arrives, takes, starts, steps, after, afterAll}
 

@@ -16,7 +16,7 @@ use Rattle.box_state.specs.declared.Phase.the-variants as phase
 use Rattle.box_state.specs.declared.ReceiveBox.{ReceiveBox}
 use Rattle.box_state.specs.Rules.{isIdle, phaseOk, boxOk}
 use Rattle.box_state.specs.Calls.{freshBox, arriveOf, takeOf}
-use Rattle.box_step_answers.specs.Step.{offering, noticeStep, lookStep, missStep, copyStep, releaseStep, offerStep, finishStep, byPhase, stepOf}
+use Rattle.box_drain.specs.Step.{offering, noticeStep, lookStep, missStep, copyStep, releaseStep, offerStep, finishStep, byPhase, stepOf}
 use Rattle.box_drain.specs.Start.{startOf}
 use Rattle.box_drain.specs.Run.{Call, arrives, takes, starts, steps, refusedWith, refusalOf, after, afterAll, untimely, refusalDue}
 use Rattle.box_drain.proofs.Kept.{rules-for-ever}

@@ -9,7 +9,7 @@ use Rattle.box_words.specs.declared.Words.{Words}
 use Rattle.box_state.specs.declared.ReceiveBox.{ReceiveBox}
 use Rattle.box_state.specs.Rules.{isIdle, boxOk}
 use Rattle.box_state.specs.Calls.{arriveOf, takeOf}
-use Rattle.box_step_answers.specs.Step.{stepOf}
+use Rattle.box_drain.specs.Step.{stepOf}
 use Rattle.box_drain.specs.Start.{startOf}
 
 pub data Call : Type 0 where

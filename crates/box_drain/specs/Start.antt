@@ -7,7 +7,7 @@ use Rattle.refusals.specs.Table.{refusalSaid}
 use Rattle.box_words.specs.declared.Words.{Words}
 use Rattle.box_state.specs.declared.ReceiveBox.{ReceiveBox}
 use Rattle.box_state.specs.Rules.{isIdle, boxOk}
-use Rattle.box_step_answers.specs.Step.{firstPhase}
+use Rattle.box_drain.specs.Step.{firstPhase}
 use Rattle.box_drain.specs.declared.Starting.{Starting}
 use Rattle.box_drain.specs.declared.Starting.the-variants as starting
 use Rattle.box_drain.specs.declared.Started.{Started}

@@ -1,14 +1,44 @@
 // A drain of the box, by value: its start, and the step that comes next.
+mod answers;
+mod offers;
+mod steps;
+
 ghost use mathlib.Core.Path.{_≡_};
 ghost use Rattle.box_state.specs.Rules.{isIdle};
-ghost use Rattle.box_step_answers.specs.Answers.{steppedSaid};
-ghost use Rattle.box_step_answers.specs.Step.{firstPhase, stepOf};
+ghost use Rattle.box_drain.specs.Answers.{steppedSaid};
+ghost use Rattle.box_drain.specs.Step.{firstPhase, stepOf};
 ghost use Rattle.box_drain.specs.Start.{startedSaid, startOf};
+use box_records::Record;
 use box_state::Phase;
 use box_state::ReceiveBox;
-use box_step_answers::Stepped;
+use box_words::Finished;
 use box_words::Words;
 use refusals::Refusal;
+
+pub enum Command {
+    Nothing,
+    Abort,
+    Release,
+}
+
+pub enum Stepping {
+    Done,
+    Lost,
+    Finished(Finished),
+    Refused(Refusal),
+}
+
+// The lost record stands beside the enum: blank where none is lost.
+pub struct StepAnswer {
+    pub stepping: Stepping,
+    pub command: Command,
+    pub lost: Record,
+}
+
+pub struct Stepped {
+    pub answer: StepAnswer,
+    pub state: ReceiveBox,
+}
 
 pub enum Starting {
     Started,
@@ -41,7 +71,7 @@ fn first_phase(words: Words) -> Phase
     if words.notice_due() {
         return Phase::Notice;
     }
-    box_drain_offers::after_notice(words)
+    offers::after_notice(words)
 }
 
 // A drain starts: its words are stored, and no step is made.
@@ -80,15 +110,15 @@ pub fn step(state: ReceiveBox) -> Stepped
     if state.valid() {
         let phase = state.phase;
         return match phase {
-            Phase::Idle => box_step_answers::refused(Refusal::NoDrainRuns, state),
-            Phase::Notice => box_drain_offers::notice_step(state),
-            Phase::Look => box_drain_steps::look_step(state),
-            Phase::Miss => box_drain_steps::miss_step(state),
-            Phase::Copy => box_drain_steps::copy_step(state),
-            Phase::Release => box_drain_steps::release_step(state),
-            Phase::Offer => box_drain_offers::offer_step(state),
-            Phase::Finish => box_drain_steps::finish_step(state),
+            Phase::Idle => answers::refused(Refusal::NoDrainRuns, state),
+            Phase::Notice => offers::notice_step(state),
+            Phase::Look => steps::look_step(state),
+            Phase::Miss => steps::miss_step(state),
+            Phase::Copy => steps::copy_step(state),
+            Phase::Release => steps::release_step(state),
+            Phase::Offer => offers::offer_step(state),
+            Phase::Finish => steps::finish_step(state),
         };
     }
-    box_step_answers::refused(Refusal::BrokenState, state)
+    answers::refused(Refusal::BrokenState, state)
 }

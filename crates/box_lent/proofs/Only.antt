@@ -5,11 +5,10 @@ use Rattle.box_state.specs.declared.ReceiveBox.{ReceiveBox}
 use Rattle.box_state.specs.declared.Arrived.{Arrived}
 use Rattle.box_state.specs.declared.Taken.{Taken}
 use Rattle.box_state.proofs.Only.{only-arrived, only-taken}
-use Rattle.box_step_answers.specs.declared.Stepped.{Stepped}
-use Rattle.box_step_answers.proofs.Only.{only-stepped}
+use Rattle.box_drain.specs.declared.Stepped.{Stepped}
+use Rattle.box_drain.proofs.Only.{only-stepped, only-started}
 use Rattle.box_drain.specs.declared.Started.{Started}
 use Rattle.box_drain.specs.Run.{Call, arrives, takes, starts, steps}
-use Rattle.box_drain.proofs.Only.{only-started}
 use Rattle.box_lent.specs.Calls.{AnswerTo, callLent}
 
 -- two pairs with one value each

@@ -10,9 +10,9 @@ use Rattle.box_words.specs.declared.Words.{Words}
 use Rattle.box_state.specs.declared.ReceiveBox.{ReceiveBox}
 use Rattle.box_state.specs.declared.Arriving.{Arriving}
 use Rattle.box_state.specs.Calls.{arrivingSaid, arriveOf, takeOf}
-use Rattle.box_step_answers.specs.declared.StepAnswer.{StepAnswer}
-use Rattle.box_step_answers.specs.Answers.{stepSaid}
-use Rattle.box_step_answers.specs.Step.{stepOf}
+use Rattle.box_drain.specs.declared.StepAnswer.{StepAnswer}
+use Rattle.box_drain.specs.Answers.{stepSaid}
+use Rattle.box_drain.specs.Step.{stepOf}
 use Rattle.box_drain.specs.declared.Starting.{Starting}
 use Rattle.box_drain.specs.Start.{startingSaid, startOf}
 use Rattle.box_drain.specs.Run.{Call, arrives, takes, starts, steps, refusedWith}

@@ -1,10 +1,10 @@
 // The box lent by its caller: each call makes the call by value, and stores the box that comes of it.
 ghost use Rattle.box_lent.specs.Calls.{arriveLent, takeLent, startLent, stepLent};
 use box_drain::Starting;
+use box_drain::StepAnswer;
 use box_queue::TakeAnswer;
 use box_state::Arriving;
 use box_state::ReceiveBox;
-use box_step_answers::StepAnswer;
 use box_words::Words;
 
 // A frame arrives at the controller.

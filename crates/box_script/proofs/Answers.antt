@@ -23,9 +23,9 @@ use Rattle.box_fifo.specs.Ring.{Outcome}
 use Rattle.box_words.specs.declared.Words.{Words}
 use Rattle.box_state.specs.declared.ReceiveBox.{ReceiveBox}
 use Rattle.box_state.specs.Calls.{arriveOf, takeOf}
-use Rattle.box_step_answers.specs.declared.Command.{Command}
-use Rattle.box_step_answers.specs.Answers.{Told, done, lost, finished}
-use Rattle.box_step_answers.specs.Step.{stepOf}
+use Rattle.box_drain.specs.declared.Command.{Command}
+use Rattle.box_drain.specs.Answers.{Told, done, lost, finished}
+use Rattle.box_drain.specs.Step.{stepOf}
 use Rattle.box_drain.specs.Start.{startOf}
 use Rattle.box_drain.specs.Run.{arrives, takes, starts, steps}
 use Rattle.box_script.specs.State.{wordsAt, wordsBytes, entryBytes, recordBytes, entriesBytes, fifoBytes, placesBytes, queueBytes, phaseByte, stateAt, stateBytes}

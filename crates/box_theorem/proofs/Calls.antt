@@ -30,7 +30,7 @@ use Rattle.box_state.specs.declared.ReceiveBox.{ReceiveBox}
 use Rattle.box_state.specs.Rules.{isIdle}
 use Rattle.box_state.specs.Calls.{withOf, arriveOf, takeOf}
 use Rattle.box_state.proofs.Rules.{Good, good-ok}
-use Rattle.box_step_answers.specs.Step.{firstPhase, afterNotice}
+use Rattle.box_drain.specs.Step.{firstPhase, afterNotice}
 use Rattle.box_drain.specs.Start.{begun, startOf}
 use Rattle.box_model.specs.Calls as Calls
 use Rattle.box_model.specs.Lists as Lists

@@ -22,10 +22,10 @@ use Rattle.box_state.specs.declared.ReceiveBox.{ReceiveBox}
 use Rattle.box_state.specs.Rules.{recordOf, busOff, phaseOk}
 use Rattle.box_state.specs.Calls.{withOf}
 use Rattle.box_state.proofs.Rules.{Good, good-ok, ready, copy-front, release-front}
-use Rattle.box_step_answers.specs.declared.Command.{Command}
-use Rattle.box_step_answers.specs.declared.Command.the-variants as command
-use Rattle.box_step_answers.specs.Answers.{lost, quietly}
-use Rattle.box_step_answers.specs.Step.{atPhase, holding, offering, noticeStep, lookStep, missStep, copyStep, releaseStep, offerStep, finishStep, byPhase, stepOf}
+use Rattle.box_drain.specs.declared.Command.{Command}
+use Rattle.box_drain.specs.declared.Command.the-variants as command
+use Rattle.box_drain.specs.Answers.{lost, quietly}
+use Rattle.box_drain.specs.Step.{atPhase, holding, offering, noticeStep, lookStep, missStep, copyStep, releaseStep, offerStep, finishStep, byPhase, stepOf}
 use Rattle.box_model.specs.Calls as Calls
 use Rattle.box_model.specs.Lists.{offer}
 use Rattle.box_model.specs.Calls.{Event, Box, box, call, step, stepped, toNotice, toLook, toMiss, toCopy, toRelease, toOffer, toFinish}

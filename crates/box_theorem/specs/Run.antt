@@ -15,8 +15,8 @@ use Rattle.box_state.specs.declared.Phase as P
 use Rattle.box_state.specs.declared.Phase.the-variants as phase
 use Rattle.box_state.specs.declared.ReceiveBox.{ReceiveBox}
 use Rattle.box_state.specs.Calls.{arriveOf, takeOf}
-use Rattle.box_step_answers.specs.Answers.{Told, done, lost, finished, StepSaid}
-use Rattle.box_step_answers.specs.Step.{stepOf}
+use Rattle.box_drain.specs.Answers.{Told, done, lost, finished, StepSaid}
+use Rattle.box_drain.specs.Step.{stepOf}
 use Rattle.box_drain.specs.Start.{startOf}
 use Rattle.box_model.specs.Lists.{arrived, took, noticed, moved, nothing}
 use Rattle.box_model.specs.Calls.{Call, arrives, takes, start, step, Event, did, started, quiet, released, refused}

@@ -1,6 +1,6 @@
 -- `box_drain::first_phase` meets its contract: the test is that of the definition. Assumes nothing.
 use borrow.Author.Needs.{needs}
-use Rattle.box_step_answers.specs.Step.{firstPhase}
+use Rattle.box_drain.specs.Step.{firstPhase}
 use Rattle.box_drain.proofs.first_phase.Statement.{statement}
 use Rattle.box_drain.proofs.first_phase.Tie as tie
 

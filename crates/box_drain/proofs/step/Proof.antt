@@ -1,6 +1,6 @@
 -- `box_drain::step` meets its contract: the box is judged, and the step that is next is made. Assumes nothing.
 use borrow.Author.Needs.{needs}
-use Rattle.box_step_answers.specs.Step.{stepOf}
+use Rattle.box_drain.specs.Step.{stepOf}
 use Rattle.box_drain.proofs.step.Statement.{statement}
 use Rattle.box_drain.proofs.step.Tie as tie
 

@@ -5,13 +5,13 @@ use denote.Struct.Laws as LL
 use denote.Triple.Spec.{tripleOf}
 use denote.Triple.Table.{entered, cited}
 use Rattle.box_state.specs.declared.ReceiveBox.{ReceiveBox}
-use Rattle.box_step_answers.specs.declared.Stepped.{Stepped}
-use Rattle.box_step_answers.specs.Answers.{steppedSaid}
-use Rattle.box_step_answers.specs.Step.{stepOf}
-use Rattle.box_step_answers.proofs.StepAnswer as A
-use Rattle.box_step_answers.proofs.StepAnswer.Laws as A′
-use Rattle.box_step_answers.proofs.Stepped as R
-use Rattle.box_step_answers.proofs.Stepped.Laws as R′
+use Rattle.box_drain.specs.declared.Stepped.{Stepped}
+use Rattle.box_drain.specs.Answers.{steppedSaid}
+use Rattle.box_drain.specs.Step.{stepOf}
+use Rattle.box_drain.proofs.StepAnswer as A
+use Rattle.box_drain.proofs.StepAnswer.Laws as A′
+use Rattle.box_drain.proofs.Stepped as R
+use Rattle.box_drain.proofs.Stepped.Laws as R′
 use Rattle.box_drain.proofs.step.Symbol as g-def
 use Rattle.box_drain.proofs.step.Symbol.{name as #g}
 use Rattle.box_drain.proofs.step.Met as g-thm
