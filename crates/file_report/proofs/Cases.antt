@@ -8,7 +8,7 @@ use Rattle.frame_info.specs.Info.{dataLengthOf}
 use Rattle.frame_reading.specs.Buffer.{dataOf}
 use Rattle.text.specs.Decimal.{digitsOf, decimal}
 use Rattle.file_reading.specs.Reader.{framesFrom, framesAt, filtersFrom, readOf}
-use Rattle.shown_words.specs.Fields.{numbersIn}
+use Rattle.filter_matcher.specs.Fields.{numbersIn}
 use Rattle.filter_matcher.specs.Match.{allFit, fitsEither, acceptsOf}
 use Rattle.filter_matcher.specs.Words.{matchOf}
 use Rattle.file_report.specs.Text.{acceptsAt, marksFrom, anyFrom, marksOf, lineOf, linesFrom, countFrom, goodText, badText, acceptedText, textOf}

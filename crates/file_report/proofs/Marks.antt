@@ -16,8 +16,8 @@ use Rattle.laws.specs.Tabulate.{part}
 use Rattle.laws.proofs.Tabulate.{tabulate-same}
 use Rattle.filter_registers.specs.Registers.{codeIn, maskIn}
 use Rattle.file_reading.specs.Format.{filterBytes, frameBytes}
-use Rattle.shown_words.specs.declared.Shown.{Shown}
-use Rattle.shown_words.specs.Words.{showOf}
+use Rattle.filter_matcher.specs.declared.shown.Shown.{Shown}
+use Rattle.filter_matcher.specs.Shown.{showOf}
 use Rattle.filter_matcher.specs.Words.{compareOf}
 use Rattle.filter_matcher.proofs.Positions.{compare-is}
 use Rattle.text.specs.Decimal.{decimal}

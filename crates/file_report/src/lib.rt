@@ -9,7 +9,7 @@ ghost use Rattle.laws.specs.Tabulate.{part};
 ghost use Rattle.laws.specs.Laid.{laidFirst, laid, laying, written};
 ghost use Rattle.filter_registers.specs.Registers.{codeIn, maskIn};
 ghost use Rattle.file_reading.specs.Format.{filterLimit, frameLimit, filterBytes, frameBytes};
-ghost use Rattle.shown_words.specs.Words.{showOf};
+ghost use Rattle.filter_matcher.specs.Shown.{showOf};
 ghost use Rattle.filter_matcher.specs.Words.{compareOf, matchingSaid};
 ghost use Rattle.file_report.specs.Text.{verdict, marksFrom, anyFrom, lineOf, linesFrom, countFrom, goodText, badText, textOf};
 ghost use Rattle.file_report.specs.Length.{lineLength, linesLength, widthOf};
@@ -18,8 +18,8 @@ use file_reading::FILTER_BYTES;
 use file_reading::FRAME_BYTES;
 use file_reading::Reading;
 use filter_matcher::Matching;
+use filter_matcher::shown::Shown;
 use refusals::Refusal;
-use shown_words::Shown;
 
 pub enum Reporting {
     Reported(usize),
@@ -38,7 +38,7 @@ fn shown_at(file: &[u8], at: usize) -> Shown
     ensures { λ r. ⌜ r ≡ showOf (part (now (file .entry)) at frameBytes) ⌝ }
 {
     let frame = octets::thirteen(file, at);
-    shown_words::show(&frame)
+    filter_matcher::shown::show(&frame)
 }
 
 fn is_accepted(matching: Matching) -> bool

@@ -14,7 +14,7 @@ use Rattle.filter_compilers.specs.Answers.{compileOf}
 use Rattle.filter_compilers.proofs.Back.{patterns-back}
 use Rattle.frame_info.specs.Info.{extendedOf, dataLengthOf}
 use Rattle.frame_reading.specs.Buffer.{dataOf}
-use Rattle.shown_words.specs.Fields.{rowFor, numbersIn}
+use Rattle.filter_matcher.specs.Fields.{rowFor, numbersIn}
 use Rattle.filter_matcher.specs.Match.{allFit, fitsEither, fitsFilter, acceptsOf}
 
 -- for each of the four compilers and every frame of its format: accepted exactly if what the frame shows fits the characters

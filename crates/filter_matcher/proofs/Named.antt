@@ -18,9 +18,9 @@ use Rattle.filter_registers.specs.Registers.{codeIn, maskIn}
 use Rattle.filter_compilers.specs.Meaning.{distinct, within, characterIn, charactersIn}
 use Rattle.filter_compilers.proofs.Table.{within-at}
 use Rattle.filter_compilers.proofs.Agree.{where-is}
-use Rattle.shown_words.specs.Words.{onesAt}
-use Rattle.shown_words.proofs.Digits.{shownAt}
-use Rattle.shown_words.proofs.Ones.{ones-in, ones-out, ones-lt}
+use Rattle.filter_matcher.specs.Shown.{onesAt}
+use Rattle.filter_matcher.proofs.Digits.{shownAt}
+use Rattle.filter_matcher.proofs.Ones.{ones-in, ones-out, ones-lt}
 use Rattle.filter_matcher.specs.Match.{fits, allFit}
 use Rattle.filter_matcher.specs.Words.{missOf}
 

@@ -16,11 +16,11 @@ use Rattle.filter_types.proofs.Builders.{laid-small}
 use Rattle.filter_compilers.proofs.Table.{row-distinct}
 use Rattle.filter_compilers.proofs.Mapped.{mapped-joined, mapped-take, mapped-drop}
 use Rattle.frame_info.specs.Info.{extendedOf}
-use Rattle.shown_words.specs.Fields.{rowFor, shownIn, shownBits, firstFields}
-use Rattle.shown_words.specs.Words.{onesAt, showBy, showOf}
-use Rattle.shown_words.specs.declared.Shown.{Shown}
-use Rattle.shown_words.proofs.Digits.{shownAt, shown-each}
-use Rattle.shown_words.proofs.Halves.{first-distinct, first-within, second-distinct, second-within, numbers-whole}
+use Rattle.filter_matcher.specs.Fields.{rowFor, shownIn, shownBits, firstFields}
+use Rattle.filter_matcher.specs.Shown.{onesAt, showBy, showOf}
+use Rattle.filter_matcher.specs.declared.shown.Shown.{Shown}
+use Rattle.filter_matcher.proofs.Digits.{shownAt, shown-each}
+use Rattle.filter_matcher.proofs.Halves.{first-distinct, first-within, second-distinct, second-within, numbers-whole}
 use Rattle.filter_matcher.specs.Match.{allFit, fitsEither, acceptsOf}
 use Rattle.filter_matcher.specs.Words.{missOf, agreesOf, compareOf, matchOf}
 use Rattle.filter_matcher.proofs.Named.{miss-is}

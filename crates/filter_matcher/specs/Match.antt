@@ -8,7 +8,7 @@ use lib.ListN.{take, drop}
 use Rattle.filter_compilers.specs.Table.{fieldsOf, joined}
 use Rattle.filter_compilers.specs.Meaning.{patternsIn}
 use Rattle.frame_info.specs.Info.{extendedOf}
-use Rattle.shown_words.specs.Fields.{rowFor, shownBits, firstFields}
+use Rattle.filter_matcher.specs.Fields.{rowFor, shownBits, firstFields}
 
 -- a character that is asked for and the one that is shown: `x` is not compared
 abbrev pub fits : ℕ → ℕ → Bool

@@ -7,7 +7,7 @@ use lib.Bits.{bitAnd, bitXor}
 use lib.Dec.{eqb, ltb}
 use Rattle.laws.specs.Said.{Said, refuses, gives}
 use Rattle.refusals.specs.Table.{refusalSaid}
-use Rattle.shown_words.specs.declared.Shown.{Shown}
+use Rattle.filter_matcher.specs.declared.shown.Shown.{Shown}
 use Rattle.filter_matcher.specs.Match.{acceptsOf}
 use Rattle.filter_matcher.specs.declared.Matching.{Matching}
 use Rattle.filter_matcher.specs.declared.Matching.the-variants.{Accepted, NotAccepted, Refused}

@@ -1,10 +1,12 @@
 // The matcher: whether a filter's registers accept a frame.
+pub mod shown;
+
 ghost use mathlib.Core.Path.{_≡_};
 ghost use Prim.Native.Nat.{_/_, _%_, _^_};
 ghost use Rattle.laws.specs.Said.{refuses, gives};
 ghost use Rattle.filter_matcher.specs.Words.{missOf, compareOf, matchOf, matchingSaid};
+use crate::shown::Shown;
 use refusals::Refusal;
-use shown_words::Shown;
 
 pub enum Matching {
     Accepted,
@@ -75,7 +77,7 @@ pub fn accepts(kind: u8, registers: &[u8; 8], frame: &[u8; 13]) -> Matching
     let mask = octets::word(registers[4], registers[5], registers[6], registers[7]);
     let words = both(code, mask);
     if kind == 0 {
-        return compare_both(0, words, shown_words::show(frame));
+        return compare_both(0, words, shown::show(frame));
     }
-    compare_both(1, words, shown_words::show(frame))
+    compare_both(1, words, shown::show(frame))
 }

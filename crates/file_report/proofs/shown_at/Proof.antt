@@ -3,7 +3,7 @@ use mathlib.Core.Path.{ap, _∙_}
 use native.Mathlib.Omega.{arith}
 use borrow.Author.Needs.{needs}
 use Rattle.octets.proofs.Part.{part-within}
-use Rattle.shown_words.specs.Words.{showOf}
+use Rattle.filter_matcher.specs.Shown.{showOf}
 use Rattle.file_report.proofs.shown_at.Statement.{statement}
 use Rattle.file_report.proofs.shown_at.Tie as tie
 

@@ -1,9 +1,9 @@
--- `shown_words::show_standard` meets its contract: its sums are the words with these numbers at their rows' positions. Assumes nothing.
+-- `filter_matcher::shown::show_standard` meets its contract: its sums are the words with these numbers at their rows' positions. Assumes nothing.
 use native.Mathlib.Omega.{arith}
 use borrow.Author.Needs.{needs}
-use Rattle.shown_words.proofs.Rows.{standard-rows}
-use Rattle.shown_words.proofs.show_standard.Statement.{statement}
-use Rattle.shown_words.proofs.show_standard.Tie as tie
+use Rattle.filter_matcher.proofs.Rows.{standard-rows}
+use Rattle.filter_matcher.proofs.shown.show_standard.Statement.{statement}
+use Rattle.filter_matcher.proofs.shown.show_standard.Tie as tie
 
 mul-front : tie.Need-mul-front
 mul-front c = search needs

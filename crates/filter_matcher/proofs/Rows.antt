@@ -11,9 +11,9 @@ use Rattle.filter_compilers.specs.Words.{one, wordFrom}
 use Rattle.filter_types.proofs.Laid.{laid-single-standard, laid-single-extended, laid-dual-standard, laid-dual-extended}
 use Rattle.frame_info.specs.Info.{extendedOf, remoteOf}
 use Rattle.frame_reading.specs.Buffer.{idOf}
-use Rattle.shown_words.specs.Fields.{byteOf, numbersIn}
-use Rattle.shown_words.specs.Words.{onesAt, showBy, showOf}
-use Rattle.shown_words.specs.declared.Shown.{Shown}
+use Rattle.filter_matcher.specs.Fields.{byteOf, numbersIn}
+use Rattle.filter_matcher.specs.Shown.{onesAt, showBy, showOf}
+use Rattle.filter_matcher.specs.declared.shown.Shown.{Shown}
 
 -- what is shown, by its two words
 abbrev pub standardShown : ℕ → ℕ → Shown

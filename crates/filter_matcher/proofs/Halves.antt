@@ -5,7 +5,7 @@ use lib.Dec.{T}
 use lib.ListN.{length, take, drop}
 use Rattle.filter_compilers.specs.Table.{Filter, singleStandard, singleExtended, dualStandard, dualExtended, fieldsOf, joined}
 use Rattle.filter_compilers.specs.Meaning.{distinct, within}
-use Rattle.shown_words.specs.Fields.{numbersIn, firstFields}
+use Rattle.filter_matcher.specs.Fields.{numbersIn, firstFields}
 
 -- ---- each row, by tests that compute over the table
 pub first-distinct : (filter : Filter) → T (distinct (joined (take (firstFields filter) (fieldsOf filter))))

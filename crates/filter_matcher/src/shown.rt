@@ -4,7 +4,7 @@ ghost use mathlib.Core.Bool.{true, false};
 ghost use Prim.Native.Nat.{_<_, _≤_};
 ghost use lib.ListN.{getD};
 ghost use Rattle.identifiers.specs.Limits.{limitOf};
-ghost use Rattle.shown_words.specs.Words.{showOf, showBy};
+ghost use Rattle.filter_matcher.specs.Shown.{showOf, showBy};
 
 // What a frame shows: its word for a single filter and the positions that it names, and the same for the two halves of a dual filter.
 pub struct Shown {

@@ -10,8 +10,8 @@ use Rattle.filter_compilers.specs.Words.{codeOf}
 use Rattle.filter_types.specs.Words.{laidOf}
 use Rattle.frame_info.specs.Info.{extendedOf, remoteOf}
 use Rattle.frame_reading.specs.Buffer.{idOf}
-use Rattle.shown_words.specs.Fields.{rowFor, byteOf, numbersIn, firstFields}
-use Rattle.shown_words.specs.declared.Shown.{Shown}
+use Rattle.filter_matcher.specs.Fields.{rowFor, byteOf, numbersIn, firstFields}
+use Rattle.filter_matcher.specs.declared.shown.Shown.{Shown}
 
 -- a word of ones at these positions
 unfoldable pub onesAt : List ℕ → ℕ

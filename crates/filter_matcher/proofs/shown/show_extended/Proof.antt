@@ -1,9 +1,9 @@
--- `shown_words::show_extended` meets its contract: its sums are the words with these numbers at their rows' positions. Assumes nothing.
+-- `filter_matcher::shown::show_extended` meets its contract: its sums are the words with these numbers at their rows' positions. Assumes nothing.
 use mathlib.Core.Path.{refl}
 use borrow.Author.Needs.{needs}
-use Rattle.shown_words.proofs.Rows.{extended-rows}
-use Rattle.shown_words.proofs.show_extended.Statement.{statement}
-use Rattle.shown_words.proofs.show_extended.Tie as tie
+use Rattle.filter_matcher.proofs.Rows.{extended-rows}
+use Rattle.filter_matcher.proofs.shown.show_extended.Statement.{statement}
+use Rattle.filter_matcher.proofs.shown.show_extended.Tie as tie
 
 mul-t4 : tie.Need-mul-t4
 mul-t4 c = search needs

@@ -1,4 +1,4 @@
--- `shown_words::show` meets its contract: the frame's format picks the rows, and the frame's readers give the numbers. Assumes nothing.
+-- `filter_matcher::shown::show` meets its contract: the frame's format picks the rows, and the frame's readers give the numbers. Assumes nothing.
 use mathlib.Core.Path.{sym, ap, ap₂, _∙_}
 use Prim.Native.Nat.{ℕ}
 use lib.ListN.{getD}
@@ -6,10 +6,10 @@ use mathlib.Core.List.{List}
 use mathlib.Core.Bool.{true, false}
 use borrow.Author.Needs.{needs}
 use Rattle.laws.specs.Row.{bit}
-use Rattle.shown_words.specs.Words.{showBy}
-use Rattle.shown_words.proofs.Rows.{no-data, shown-by, within-own}
-use Rattle.shown_words.proofs.show.Statement.{statement}
-use Rattle.shown_words.proofs.show.Tie as tie
+use Rattle.filter_matcher.specs.Shown.{showBy}
+use Rattle.filter_matcher.proofs.Rows.{no-data, shown-by, within-own}
+use Rattle.filter_matcher.proofs.shown.show.Statement.{statement}
+use Rattle.filter_matcher.proofs.shown.show.Tie as tie
 
 identifier-number-requires : tie.Need-identifier-number-requires
 identifier-number-requires c κs = search needs
