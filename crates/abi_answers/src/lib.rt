@@ -1,10 +1,13 @@
-// What an exported function answers, and bytes in and out of lent slices.
+// What an exported function answers, and bytes in and out of lent slices; what all eight filter compilers answer and deliver.
 ghost use mathlib.Core.Path.{_≡_};
 ghost use Rattle.laws.specs.Said.{gives, refuses};
 ghost use Rattle.laws.specs.Row.{bit};
 ghost use Rattle.laws.specs.Laid.{laying, written};
 ghost use Rattle.refusals.specs.Table.{refusalSaid};
-ghost use Rattle.abi_answers.specs.Answers.{answerOf, laidInto};
+ghost use Rattle.filter_registers.specs.Answers.{compiledSaid};
+ghost use Rattle.abi_answers.specs.Answers.{answerOf, laidInto, delivering, deliveryLeaves};
+use filter_registers::Compiled;
+use filter_registers::Compiling;
 use refusals::Refusal;
 
 #[repr(C)]
@@ -71,4 +74,20 @@ pub fn registers(slice: &[u8]) -> [u8; 8]
     let mut bytes = [0u8; 8];
     lay(slice, &mut bytes);
     bytes
+}
+
+// The answer of compiling, and the registers in a lent slice, the argument of this number; it has 8 bytes, or it is refused.
+pub fn deliver(compiled: Compiled, argument: usize, registers: &mut [u8]) -> Answer
+    ensures { λ r. ⌜ r ≡ answerOf (delivering 8 argument (now (registers .entry)) (compiledSaid compiled)) ⌝ }
+    ensures { λ _. ⌜ now (registers .exit) ≡ deliveryLeaves 8 argument (now (registers .entry)) (compiledSaid compiled) ⌝ }
+{
+    if registers.len() != 8 {
+        return wrong_length(argument);
+    }
+    let answer = compiled.answer;
+    let bytes = compiled.registers;
+    match answer {
+        Compiling::Made => lay(&bytes, registers),
+        Compiling::Refused(refusal) => refused(refusal),
+    }
 }

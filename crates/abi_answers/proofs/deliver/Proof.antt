@@ -1,4 +1,4 @@
--- `abi_delivery::deliver` meets its contract: what was made is laid into the lent slice, which it fills; a refusal leaves all, and so does a slice of another length. Assumes nothing.
+-- `abi_answers::deliver` meets its contract: what was made is laid into the lent slice, which it fills; a refusal leaves all, and so does a slice of another length. Assumes nothing.
 use Prim.Native.Nat.{ℕ}
 use mathlib.Core.Path.{_≡_, refl, ap, _∙_}
 use lib.ListN.{length}
@@ -6,10 +6,10 @@ use borrow.Author.Needs.{needs}
 use Rattle.laws.specs.Said.{Said, gives}
 use Rattle.laws.specs.Laid.{laying, written}
 use Rattle.filter_registers.specs.Answers.{compiledSaid}
 use Rattle.abi_answers.specs.Answers.{answerOf}
 use Rattle.abi_answers.proofs.Whole.{sized-no, lays, delivered}
-use Rattle.abi_delivery.proofs.deliver.Statement.{statement}
-use Rattle.abi_delivery.proofs.deliver.Tie as tie
+use Rattle.abi_answers.proofs.deliver.Statement.{statement}
+use Rattle.abi_answers.proofs.deliver.Tie as tie
 
 wrong-length-requires : tie.Need-wrong-length-requires
 wrong-length-requires c κs = search needs
