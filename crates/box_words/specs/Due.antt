@@ -1,31 +1,31 @@
 -- What the words of a start call for, and what a finish answers.
--- Source: the outline, "The box", steps 1, 2 and 4, and "Decisions"; the ESP32-C3 manual, TWAI chapter, interrupt and status registers.
+-- Source: the outline, "The box", steps 1, 2 and 4, with the bits of `status_bits`.
 use Prim.Native.Nat.{_+_, _-_, _^_}
 use mathlib.Core.Bool.{Bool, _&&_, _||_}
 use lib.Bits.{bitAnd, bitOr}
-use Rattle.laws.specs.Bits.{isSet}
 use Rattle.laws.specs.Row.{bit}
+use Rattle.status_bits.specs.Status.{inError, inBusOff}
+use Rattle.status_bits.specs.Interrupt.{receives, transmits, errorWarning, errorPassive, busError}
 use Rattle.box_words.specs.declared.Words.{Words}
 use Rattle.box_words.specs.declared.Finished.{Finished}
 
--- interrupt bit 0, receive
 unfoldable pub receiveDue : Words → Bool
-receiveDue w = isSet (w .interrupt) 0
+receiveDue w = receives (w .interrupt)
 
--- error warning (interrupt bit 2), bus-off (status bit 7) and error (status bit 6) are all set
+-- error warning, bus-off and error are all set
 unfoldable pub noticeDue : Words → Bool
-noticeDue w = isSet (w .interrupt) 2 && (isSet (w .status) 7 && isSet (w .status) 6)
+noticeDue w = errorWarning (w .interrupt) && (inBusOff (w .status) && inError (w .status))
 
--- any of error warning (interrupt bit 2), error passive (5), bus error (7)
+-- any of error warning, error passive, bus error
 unfoldable pub errorDue : Words → Bool
-errorDue w = isSet (w .interrupt) 2 || (isSet (w .interrupt) 5 || isSet (w .interrupt) 7)
+errorDue w = errorWarning (w .interrupt) || (errorPassive (w .interrupt) || busError (w .interrupt))
 
--- transmit wakes: one each for a notice, for transmit (interrupt bit 1), and for any of the errors; error wakes: the first and the last of
+-- transmit wakes: one each for a notice, for transmit, and for any of the errors; error wakes: the first and the last of
 -- those; enable AND (NOT interrupt OR 1)
 unfoldable pub finishOf : Words → Finished
 finishOf w =
     record {
-      «transmit_wakes» = bit (noticeDue w) + bit (isSet (w .interrupt) 1) + bit (errorDue w);
+      «transmit_wakes» = bit (noticeDue w) + bit (transmits (w .interrupt)) + bit (errorDue w);
       «error_wakes» = bit (noticeDue w) + bit (errorDue w);
       enable = bitAnd (w .enable) (bitOr (2 ^ 32 - 1 - w .interrupt) 1);
     }

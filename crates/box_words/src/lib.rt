@@ -1,25 +1,15 @@
 // The words of a start, what they call for, and what a finish answers.
 ghost use mathlib.Core.Path.{_≡_};
-ghost use Prim.Native.Nat.{_<_};
-ghost use Rattle.laws.specs.Row.{bit};
-ghost use Rattle.laws.specs.Bits.{isSet};
 ghost use Rattle.box_words.specs.Due.{receiveDue, noticeDue, errorDue, finishOf};
-
-// Interrupt bits by the manual.
-const RECEIVE: u32 = 0;
-
-const TRANSMIT: u32 = 1;
-
-const ERROR_WARNING: u32 = 2;
-
-const ERROR_PASSIVE: u32 = 5;
-
-const BUS_ERROR: u32 = 7;
-
-// Status bits by the manual.
-const ERROR: u32 = 6;
-
-const BUS_OFF: u32 = 7;
+use octets::one_bit;
+use status_bits::BUS_ERROR;
+use status_bits::BUS_OFF;
+use status_bits::ERROR;
+use status_bits::ERROR_PASSIVE;
+use status_bits::ERROR_WARNING;
+use status_bits::RECEIVE;
+use status_bits::TRANSMIT;
+use status_bits::is_set;
 
 pub struct Words {
     pub interrupt: u32,
@@ -32,22 +22,6 @@ pub struct Finished {
     pub transmit_wakes: u8,
     pub error_wakes: u8,
     pub enable: u32,
-}
-
-fn is_set(word: u32, at: u32) -> bool
-    requires { ⌜ at < 32 ⌝ }
-    ensures { λ r. ⌜ r ≡ isSet word at ⌝ }
-{
-    (word >> at) % 2 == 1
-}
-
-fn one_if(due: bool) -> u8
-    ensures { λ r. ⌜ (r ≡ bit due) × (r < 2) ⌝ }
-{
-    if due {
-        return 1;
-    }
-    0
 }
 
 impl Words {
@@ -84,9 +58,9 @@ impl Words {
     pub fn finish(self) -> Finished
         ensures { λ r. ⌜ r ≡ finishOf self ⌝ }
     {
-        let notice = one_if(self.notice_due());
-        let sent = one_if(is_set(self.interrupt, TRANSMIT));
-        let errors = one_if(self.error_due());
+        let notice = one_bit(self.notice_due());
+        let sent = one_bit(is_set(self.interrupt, TRANSMIT));
+        let errors = one_bit(self.error_due());
         Finished {
             transmit_wakes: notice + sent + errors,
             error_wakes: notice + errors,

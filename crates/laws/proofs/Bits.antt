@@ -17,6 +17,10 @@ bit-lt w k = mod-lt (w / 2 ^ k) (zero-lt-suc 1)
 pub bit-zero : (k : ℕ) → bitAt 0 k ≡ 0
 bit-zero k = ap (λ (x : ℕ). x % 2) (zero-div (2 ^ k)) ∙ zero-mod 2
 
+-- a number below 2 ^ n has none from n on
+pub bit-beyond : (w n k : ℕ) → w < 2 ^ n → n ≤ k → bitAt w k ≡ 0
+bit-beyond w n k small beyond = ap (λ (x : ℕ). x % 2) (div-eq-of-lt (omega (arith, pow-mono {i = n} {j = k} beyond))) ∙ zero-mod 2
+
 max-lt : (a b : ℕ) → a < 2 → b < 2 → max a b < 2
 max-lt a b ha hb = omega arith
 

@@ -5,7 +5,7 @@ use mathlib.Core.Bool.{true, false}
 use mathlib.Core.List.{List, [], _∷_, _++_, append-assoc, append-nil}
 use lib.Dec.{leb}
 use lib.ListN.{length, getD, take, drop, set, length-append, length-drop, length-take, drop-of-length-le, take-append-drop}
-use lib.Seq.{drop-cons, take-suc, take-all, take-at, drop-at, set-split, length-take-le, drop-drop}
+use lib.Seq.{drop-cons, take-suc, take-all, take-at, take-length, drop-at, set-split, length-take-le, drop-drop, paste}
 use native.Mathlib.Numerals.{add-one}
 use native.Mathlib.Omega.{arith}
 use borrow.Author.Tests.{le-leb, lt-leb}
@@ -70,6 +70,13 @@ laid-more at i text out now h room e =
     ap (λ (l : List ℕ). set l (at + i) (getD text i 0)) e
     ∙ set-then (at + i) (getD text i 0) at (take i text) out (ap (λ (n : ℕ). at + n) (sym (length-take-le i text (omega arith)))) (omega arith)
     ∙ ap (λ (t : List ℕ). laid at t out) (sym (take-suc text i 0 h) ∙ ap (λ (n : ℕ). take n text) (sym (add-one i)))
+
+-- laid is pasted whole
+pub laid-paste : (at : ℕ) (text out : List ℕ) → laid at text out ≡ paste out at text (length text)
+laid-paste at text out =
+    ap (λ (l : List ℕ). take at out ++ (text ++ l)) (drop-drop (length text) at out)
+    ∙ sym (append-assoc (take at out) text (drop (at + length text) out))
+    ∙ rw take-length
 
 -- the answer and the output, where room is asked for
 pub laying-short : (text out : List ℕ) (n : ℕ) → n ≡ length text → length out < n → (refuses 6 n ≡ laying text out) × (out ≡ written (laying text out) text out)

@@ -2,7 +2,7 @@
 -- Source: the outline, "Decisions"; the Rust's blocking transmit and receive, and its transmit poll.
 use Prim.Native.Nat.{ℕ}
 use mathlib.Core.Bool.{Bool, true, cond}
-use Rattle.status_decisions.specs.Status.{receiveReady, transmitFree, inBusOff, missed}
+use Rattle.status_bits.specs.Status.{receiveReady, transmitFree, inBusOff, missed}
 use Rattle.status_decisions.specs.Answers.{Answer, busOff, transmissionAborted, wouldBlock, pending, overrun, done, Action, nothing, abort, writeFrame, readAndRelease}
 
 -- where the transmit buffer is not free: the pending frame is given up, or waited for

@@ -1,9 +1,12 @@
 // Decisions: what transmit, the transmit poll and receive answer to a status word, and the command that goes with the answer.
 ghost use mathlib.Core.Path.{_≡_};
-ghost use Prim.Native.Nat.{_<_};
-ghost use Rattle.laws.specs.Bits.{isSet};
 ghost use Rattle.status_decisions.specs.Answers.{commandSaid, transmitSaid, pollSaid, receiveSaid, transmissionSaid, pollingSaid, receptionSaid};
 ghost use Rattle.status_decisions.specs.Decisions.{transmitOf, pollOf, receiveOf};
+use status_bits::BUS_OFF;
+use status_bits::MISS;
+use status_bits::RECEIVE_READY;
+use status_bits::TRANSMIT_FREE;
+use status_bits::is_set;
 
 // What is to be done to the peripheral. The frame that is written is the caller's; a decision never looks into it.
 pub enum Command {
@@ -49,21 +52,6 @@ pub enum ReceiveAnswer {
 pub struct Reception {
     pub answer: ReceiveAnswer,
     pub command: Command,
-}
-
-const RECEIVE_READY: u32 = 0;
-
-const TRANSMIT_FREE: u32 = 2;
-
-const BUS_OFF: u32 = 7;
-
-const MISS: u32 = 8;
-
-fn is_set(status: u32, position: u32) -> bool
-    requires { ⌜ position < 32 ⌝ }
-    ensures { λ r. ⌜ r ≡ isSet status position ⌝ }
-{
-    (status >> position) % 2 == 1
 }
 
 fn transmit_with(answer: TransmitAnswer, command: Command) -> Transmission

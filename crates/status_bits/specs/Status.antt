@@ -1,4 +1,4 @@
--- The status word's bits that decide. Bit 6, error, decides nothing here.
+-- The bits of the status word.
 -- Source: ESP32-C3 manual, TWAI chapter, status register; the outline, "Decisions".
 use Prim.Native.Nat.{ℕ}
 use mathlib.Core.Bool.{Bool}
@@ -9,6 +9,9 @@ receiveReady status = isSet status 0
 
 abbrev pub transmitFree : ℕ → Bool
 transmitFree status = isSet status 2
+
+abbrev pub inError : ℕ → Bool
+inError status = isSet status 6
 
 abbrev pub inBusOff : ℕ → Bool
 inBusOff status = isSet status 7
