@@ -193,11 +193,7 @@ fn with_field(characters: [u8; 32], at: usize, pattern: &[u8]) -> [u8; 32]
     ensures { λ r. ⌜ r ≡ paste characters at (now (pattern .entry)) (length (now (pattern .entry))) ⌝ }
 {
     let mut filled = characters;
-    let mut i = 0;
-    while i < pattern.len() {
-        filled[at + i] = pattern[i];
-        i += 1;
-    }
+    text::put_text(&mut filled, at, pattern);
     filled
 }
 

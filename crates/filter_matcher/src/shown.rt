@@ -58,7 +58,7 @@ pub fn show(frame: &[u8; 13]) -> Shown
     ensures { λ r. ⌜ r ≡ showOf (now (frame .entry)) ⌝ }
 {
     let id = frame_reading::identifier_number(frame);
-    let rtr = octets::one_bit(frame_info::is_remote_request(frame));
+    let rtr = octets::wide(octets::one_bit(frame_info::is_remote_request(frame)));
     if frame_info::is_extended_format(frame) {
         return show_extended(id, rtr);
     }

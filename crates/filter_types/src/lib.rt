@@ -27,14 +27,15 @@ fn single_standard_word(id: StandardId, rtr: bool, first: u8, second: u8) -> u32
     ensures { λ r. ⌜ r ≡ laidOf (fieldsOf singleStandard) (id .0 ∷ bit rtr ∷ first ∷ second ∷ []) ⌝ }
 {
     standard_raw(id) * 0x20_0000
-        + (octets::one_bit(rtr) * 0x10_0000 + (octets::wide(first) * 0x100 + octets::wide(second)))
+        + (octets::wide(octets::one_bit(rtr)) * 0x10_0000
+            + (octets::wide(first) * 0x100 + octets::wide(second)))
 }
 
 fn single_extended_word(id: ExtendedId, rtr: bool) -> u32
     requires { ⌜ id .0 < 0x2000_0000 ⌝ }
     ensures { λ r. ⌜ r ≡ laidOf (fieldsOf singleExtended) (id .0 ∷ bit rtr ∷ []) ⌝ }
 {
-    id.0 * 8 + octets::one_bit(rtr) * 4
+    id.0 * 8 + octets::wide(octets::one_bit(rtr)) * 4
 }
 
 fn dual_standard_word(
@@ -50,8 +51,8 @@ fn dual_standard_word(
     let high = octets::wide(payload) / 16;
     let low = octets::wide(payload) % 16;
     let upper = standard_raw(first) * 0x20_0000
-        + (octets::one_bit(first_rtr) * 0x10_0000 + high * 0x1_0000);
-    upper + (standard_raw(second) * 0x20 + (octets::one_bit(second_rtr) * 0x10 + low))
+        + (octets::wide(octets::one_bit(first_rtr)) * 0x10_0000 + high * 0x1_0000);
+    upper + (standard_raw(second) * 0x20 + (octets::wide(octets::one_bit(second_rtr)) * 0x10 + low))
 }
 
 fn dual_extended_word(first: u16, second: u16) -> u32

@@ -1,14 +1,15 @@
--- The buffer's parts: what data pasted into an empty buffer make of it, and the identifier's bytes.
+-- The buffer's parts: what data laid into an empty buffer make of it, and the identifier's bytes.
 -- Assumes nothing.
 use Prim.Native.Nat.{ℕ, zero, suc, _+_, _-_, _*_, _/_, _%_, _≤_}
-use mathlib.Core.Path.{_≡_, _∙_}
+use mathlib.Core.Path.{_≡_, ap, ap₂, _∙_}
 use mathlib.Core.Bool.{Bool, true, false}
-use mathlib.Core.List.{List, [], _∷_, _++_, append-assoc}
+use mathlib.Core.List.{List, [], _∷_, _++_}
 use lib.ListN.{length-replicate, length, drop, replicate}
-use lib.Seq.{paste, take-append-seam, take-length, drop-append-add, drop-nil}
+use lib.Seq.{take-at, drop-at, drop-nil}
 use native.Mathlib.Nat.{add-zero, zero-sub, suc-sub-suc, sub-zero}
 use native.Mathlib.Omega.{arith}
 use Rattle.laws.specs.Row.{pack, bytes}
+use Rattle.laws.specs.Laid.{laid}
 use Rattle.laws.proofs.Row.{unpack-length}
 use Rattle.frame_info.specs.Info.{idBytes, dataStart}
 use Rattle.frame_reading.specs.Buffer.{Frame, idRow}
@@ -19,11 +20,12 @@ drop-zeros zero k = rw (drop-nil k, zero-sub k)
 drop-zeros (suc n) zero = rw sub-zero
 drop-zeros (suc n) (suc k) = rw suc-sub-suc (drop-zeros n k)
 
--- data pasted behind the first bytes of a buffer that is zero from there on
-pasted : (front payload : List ℕ) (n room : ℕ) → length front ≡ n
-    → paste (front ++ replicate room 0) n payload (length payload) ≡ front ++ (payload ++ replicate (room - length payload) 0)
-pasted front payload n room h =
-    rw (← h, take-append-seam, take-length, drop-append-add, drop-zeros) (append-assoc front payload (replicate (room - length payload) 0))
+-- data laid behind the first bytes of a buffer that is zero from there on
+laid-behind : (front payload : List ℕ) (n room : ℕ) → length front ≡ n
+    → laid n payload (front ++ replicate room 0) ≡ front ++ (payload ++ replicate (room - length payload) 0)
+laid-behind front payload n room h =
+    ap₂ (λ (x y : List ℕ). x ++ (payload ++ drop (length payload) y)) (take-at front (replicate room 0) n h) (drop-at front (replicate room 0) n h)
+    ∙ ap (λ (l : List ℕ). front ++ (payload ++ l)) (drop-zeros room (length payload))
 
 pub ids-length : (format : Bool) (id : ℕ) → length (idBytesOf format id) ≡ idBytes format
 ids-length format id = unpack-length (bytes (idBytes format)) (pack (idRow format) (id ∷ 0 ∷ [])) ∙ length-replicate (idBytes format) 8
@@ -39,15 +41,15 @@ pub fronted : (f : Frame) (first : ℕ) (ids : List ℕ) → first ≡ infoByte 
 unfolding bufferOf
 fronted f first ids byte same = rw (byte, same, add-zero (dataStart (f .extended)))
 
--- a frame's data pasted into the buffer without data are its buffer
-pub filled : (f : Frame) → paste (bufferOf (emptied f)) (dataStart (f .extended)) (f .payload) (length (f .payload)) ≡ bufferOf f
+-- a frame's data laid into the buffer without data are its buffer
+pub filled : (f : Frame) → laid (dataStart (f .extended)) (f .payload) (bufferOf (emptied f)) ≡ bufferOf f
 unfolding bufferOf
 filled f =
     let start = dataStart (f .extended) in
     let front-length : length (infoByte (f .extended) (f .remote) (f .own) (f .code) ∷ idBytesOf (f .extended) (f .id)) ≡ start =
     rw (ids-length (f .extended) (f .id)) (omega arith) in
     let rest : 13 - (start + 0) - length (f .payload) ≡ 13 - (start + length (f .payload)) = omega arith in
-    pasted (infoByte (f .extended) (f .remote) (f .own) (f .code) ∷ idBytesOf (f .extended) (f .id)) (f .payload) start (13 - (start + 0))
+    laid-behind (infoByte (f .extended) (f .remote) (f .own) (f .code) ∷ idBytesOf (f .extended) (f .id)) (f .payload) start (13 - (start + 0))
     front-length
     ∙ rw rest
 

@@ -2,15 +2,15 @@
 ghost use mathlib.Core.Path.{_≡_};
 ghost use mathlib.Core.Bool.{true, false};
 ghost use mathlib.Core.List.{[]};
-ghost use Prim.Native.Nat.{_%_, _≤_, _<_};
+ghost use Prim.Native.Nat.{_≤_, _<_};
 ghost use lib.ListN.{length};
-ghost use lib.Seq.{paste};
-ghost use Rattle.laws.specs.Row.{bit};
+ghost use Rattle.laws.specs.Laid.{laid};
 ghost use Rattle.identifiers.specs.Limits.{limitOf, isExtended, rawOf};
 ghost use Rattle.frame_info.specs.Info.{dataStart};
 ghost use Rattle.frame_building.specs.Buffer.{infoByte, bufferOf};
 ghost use Rattle.frame_building.specs.Building.{invalidLength, nonCompliant, judgeOf, buildOf, buildingSaid, builtSaid, asked, askedData};
 use identifiers::Id;
+use octets::one_bit;
 use refusals::Refusal;
 
 pub enum Building {
@@ -64,15 +64,6 @@ fn judge(id: Id, remote: bool, dlc: usize, length: usize) -> Building
         return Building::Refused(Refusal::NonCompliantDlc((dlc % 256) as u8));
     }
     Building::Made
-}
-
-fn one_bit(flag: bool) -> u8
-    ensures { λ r. ⌜ (r ≡ bit flag) × (r < 2) ⌝ }
-{
-    if flag {
-        return 1;
-    }
-    0
 }
 
 fn info(extended: bool, remote: bool, own: bool, code: u8) -> u8
@@ -142,7 +133,7 @@ fn data_start(id: Id) -> usize
 // The buffer with the data in it from a place on.
 fn with_data(frame: [u8; 13], start: usize, data: &[u8]) -> [u8; 13]
     requires { ⌜ (start ≤ 5) × (length (now «data») ≤ 8) ⌝ }
-    ensures { λ r. ⌜ r ≡ paste frame start (now («data» .entry)) (length (now («data» .entry))) ⌝ }
+    ensures { λ r. ⌜ r ≡ laid start (now («data» .entry)) frame ⌝ }
 {
     let mut filled = frame;
     let mut i = 0;

@@ -1,4 +1,4 @@
-// Bytes and flags as numbers, with their bounds, a word from its four bytes, its lowest byte, and thirteen bytes from a place on.
+// Bytes and flags as numbers, with their bounds; a word from its four bytes, its lowest byte; a word and thirteen bytes from a place on.
 ghost use mathlib.Core.Path.{_≡_};
 ghost use mathlib.Core.List.{_∷_, []};
 ghost use Prim.Native.Nat.{_<_, _%_, _^_};
@@ -11,7 +11,7 @@ pub fn wide(byte: u8) -> u32
     byte as u32
 }
 
-pub fn one_bit(flag: bool) -> u32
+pub fn one_bit(flag: bool) -> u8
     ensures { λ r. ⌜ (r ≡ bit flag) × (r < 2) ⌝ }
 {
     if flag {
@@ -31,6 +31,19 @@ pub fn low_byte(word: u32) -> u8
     ensures { λ r. ⌜ r ≡ word % 256 ⌝ }
 {
     (word % 256) as u8
+}
+
+// The word of four bytes from a place on; 0 where there are fewer.
+pub fn word_at(slice: &[u8], at: usize) -> u32
+    ensures { λ r. ⌜ (r ≡ pack (bytes 4) (partOrZeros 4 at (now (slice .entry)))) × (r < 2 ^ 32) ⌝ }
+{
+    if at > slice.len() {
+        return 0;
+    }
+    if slice.len() - at < 4 {
+        return 0;
+    }
+    word(slice[at], slice[at + 1], slice[at + 2], slice[at + 3])
 }
 
 // Thirteen bytes from a place on; zeros where there are fewer.

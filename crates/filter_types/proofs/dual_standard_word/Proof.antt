@@ -21,6 +21,9 @@ mul-upper c = search needs
 one-bit-requires : tie.Need-one-bit-requires
 one-bit-requires c κs = search needs
 
+wide-requires-3 : tie.Need-wide-requires-3
+wide-requires-3 c κs = search needs
+
 mul-upper-2 : tie.Need-mul-upper-2
 mul-upper-2 c = search needs
 
@@ -42,6 +45,9 @@ mul-result c = search needs
 one-bit-requires-2 : tie.Need-one-bit-requires-2
 one-bit-requires-2 c κs = search needs
 
+wide-requires-4 : tie.Need-wide-requires-4
+wide-requires-4 c κs = search needs
+
 mul-result-2 : tie.Need-mul-result-2
 mul-result-2 c = search needs
 
@@ -55,8 +61,15 @@ add-result-3 : tie.Need-add-result-3
 add-result-3 c = search needs
 
 returns : tie.Need-returns
-returns c = rw (c .before .before .before .standard-raw .ensures .0, c .before .standard-raw2 .ensures .0, c .before .before .one-bit .ensures .0, c .one-bit2 .ensures .0, c .before .before .before .before .before .wide .ensures .0, c .before .before .before .before .wide2 .ensures .0)
-    (sym (laid-dual-standard (c .before .before .before .before .before .before .args .first .0) _ (c .before .before .before .before .before .before .args .payload) (c .before .before .before .before .before .before .args .second .0) _ (c .before .before .before .before .before .before .pre .0) (flag-lt (c .before .before .before .before .before .before .args .first-rtr)) (omega arith) (c .before .before .before .before .before .before .pre .1) (flag-lt (c .before .before .before .before .before .before .args .second-rtr))))
+returns c =
+    let upper = c .before .before .before in
+    let halves = upper .before .before .before in
+    let start = halves .before .before in
+    rw (upper .before .before .standard-raw .ensures .0, c .before .before .standard-raw2 .ensures .0)
+    (rw (upper .wide3 .ensures .0, upper .before .one-bit .ensures .0, c .wide4 .ensures .0, c .before .one-bit2 .ensures .0)
+    (rw (halves .before .wide .ensures .0, halves .wide2 .ensures .0)
+    (sym (laid-dual-standard (start .args .first .0) _ (start .args .payload) (start .args .second .0) _ (start .pre .0) (flag-lt (start .args .first-rtr)) (omega arith)
+    (start .pre .1) (flag-lt (start .args .second-rtr))))))
 
 pub dual-standard-word-spec : {M : Type 1} → statement M
 dual-standard-word-spec =
@@ -67,6 +80,7 @@ dual-standard-word-spec =
     standard-raw-requires
     mul-upper
     one-bit-requires
+    wide-requires-3
     mul-upper-2
     mul-upper-3
     add-upper
@@ -74,6 +88,7 @@ dual-standard-word-spec =
     standard-raw-requires-2
     mul-result
     one-bit-requires-2
+    wide-requires-4
     mul-result-2
     add-result
     add-result-2

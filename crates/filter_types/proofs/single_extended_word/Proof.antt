@@ -11,6 +11,9 @@ mul-result c = search needs
 one-bit-requires : tie.Need-one-bit-requires
 one-bit-requires c κs = search needs
 
+wide-requires : tie.Need-wide-requires
+wide-requires c κs = search needs
+
 mul-result-2 : tie.Need-mul-result-2
 mul-result-2 c = search needs
 
@@ -18,8 +21,11 @@ add-result : tie.Need-add-result
 add-result c = search needs
 
 returns : tie.Need-returns
-returns c = rw (c .one-bit .ensures .0) (sym (laid-single-extended (c .before .before .args .id .0) _ (c .before .before .pre) (flag-lt (c .before .before .args .rtr))))
+returns c =
+    let start = c .before .before .before in
+    rw (c .wide .ensures .0, c .before .one-bit .ensures .0)
+    (sym (laid-single-extended (start .args .id .0) _ (start .pre) (flag-lt (start .args .rtr))))
 
 pub single-extended-word-spec : {M : Type 1} → statement M
 single-extended-word-spec =
-    tie.close (tie.spec mul-result one-bit-requires mul-result-2 add-result returns)
+    tie.close (tie.spec mul-result one-bit-requires wide-requires mul-result-2 add-result returns)

@@ -15,17 +15,20 @@ mul-result c = search needs
 one-bit-requires : tie.Need-one-bit-requires
 one-bit-requires c κs = search needs
 
+wide-requires : tie.Need-wide-requires
+wide-requires c κs = search needs
+
 mul-result-2 : tie.Need-mul-result-2
 mul-result-2 c = search needs
 
-wide-requires : tie.Need-wide-requires
-wide-requires c κs = search needs
+wide-requires-2 : tie.Need-wide-requires-2
+wide-requires-2 c κs = search needs
 
 mul-result-3 : tie.Need-mul-result-3
 mul-result-3 c = search needs
 
-wide-requires-2 : tie.Need-wide-requires-2
-wide-requires-2 c κs = search needs
+wide-requires-3 : tie.Need-wide-requires-3
+wide-requires-3 c κs = search needs
 
 add-result : tie.Need-add-result
 add-result c = search needs
@@ -37,7 +40,11 @@ add-result-3 : tie.Need-add-result-3
 add-result-3 c = search needs
 
 returns : tie.Need-returns
-returns c = rw (c .before .before .before .standard-raw .ensures .0, c .before .before .one-bit .ensures .0, c .before .wide .ensures .0, c .wide2 .ensures .0) (sym (laid-single-standard (c .before .before .before .before .args .id .0) _ (c .before .before .before .before .args .first) (c .before .before .before .before .args .second) (c .before .before .before .before .pre) (flag-lt (c .before .before .before .before .args .rtr)) (omega arith) (omega arith)))
+returns c =
+    let start = c .before .before .before .before .before in
+    let flag = c .before .before .before .one-bit .ensures .0 in
+    rw (c .before .before .before .before .standard-raw .ensures .0, c .before .before .wide .ensures .0, flag, c .before .wide2 .ensures .0, c .wide3 .ensures .0)
+    (sym (laid-single-standard (start .args .id .0) _ (start .args .first) (start .args .second) (start .pre) (flag-lt (start .args .rtr)) (omega arith) (omega arith)))
 
 pub single-standard-word-spec : {M : Type 1} → statement M
 single-standard-word-spec =
@@ -46,10 +53,11 @@ single-standard-word-spec =
     standard-raw-requires
     mul-result
     one-bit-requires
-    mul-result-2
     wide-requires
-    mul-result-3
+    mul-result-2
     wide-requires-2
+    mul-result-3
+    wide-requires-3
     add-result
     add-result-2
     add-result-3
