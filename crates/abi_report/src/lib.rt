@@ -4,7 +4,7 @@ ghost use Rattle.laws.specs.Laid.{laying, written};
 ghost use Rattle.abi_answers.specs.Answers.{answerOf};
 ghost use Rattle.file_report.specs.Text.{textOf};
 use abi_answers::Answer;
-use file_report::Reporting;
+use text::Laying;
 
 #[no_mangle]
 pub extern "C" fn chherbolat_report(file: &[u8], out: &mut [u8]) -> Answer
@@ -12,7 +12,7 @@ pub extern "C" fn chherbolat_report(file: &[u8], out: &mut [u8]) -> Answer
     ensures { λ _. ⌜ now (out .exit) ≡ written (laying (textOf (now (file .entry))) (now (out .entry))) (textOf (now (file .entry))) (now (out .entry)) ⌝ }
 {
     match file_report::report(file, out) {
-        Reporting::Reported(length) => abi_answers::given(length as u64),
-        Reporting::Refused(refusal) => abi_answers::refused(refusal),
+        Laying::Laid(length) => abi_answers::given(length as u64),
+        Laying::Refused(refusal) => abi_answers::refused(refusal),
     }
 }

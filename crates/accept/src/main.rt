@@ -1,19 +1,19 @@
 // Reads a frame file on standard input, at most one byte more than the longest, and prints the report on it.
-use file_report::Reporting;
 use libc::STDERR_FILENO;
 use libc::STDOUT_FILENO;
 use standard_input::Input;
+use text::Laying;
 
 // Text of the longest report is shorter than the buffer: 4,096 lines of at most 22 characters, and the last.
 fn print_report(file: &[u8]) {
     let mut text = [0u8; 131072];
     match file_report::report(file, &mut text) {
-        Reporting::Reported(length) => {
+        Laying::Laid(length) => {
             if length <= 131072 {
                 io::write_all(STDOUT_FILENO, &text[..length]);
             }
         }
-        Reporting::Refused(_) => {
+        Laying::Refused(_) => {
             io::write_all(STDERR_FILENO, b"accept: the report is longer than can be\n");
         }
     }

@@ -3,4 +3,3 @@ pub mod Marks
 pub mod Frames
 pub mod Cap
 pub mod Cases
-pub mod Only

@@ -7,24 +7,20 @@ ghost use lib.ListN.{length, getD};
 ghost use Rattle.laws.specs.Row.{bytes, pack};
 ghost use Rattle.laws.specs.Tabulate.{part};
 ghost use Rattle.laws.specs.Laid.{laidFirst, laid, laying, written};
+ghost use Rattle.text.specs.Laying.{layingSaid};
 ghost use Rattle.filter_registers.specs.Registers.{codeIn, maskIn};
 ghost use Rattle.file_reading.specs.Format.{filterLimit, frameLimit, filterBytes, frameBytes};
 ghost use Rattle.filter_matcher.specs.Shown.{showOf};
 ghost use Rattle.filter_matcher.specs.Words.{compareOf, matchingSaid};
 ghost use Rattle.file_report.specs.Text.{verdict, marksFrom, anyFrom, lineOf, linesFrom, countFrom, goodText, badText, textOf};
 ghost use Rattle.file_report.specs.Length.{lineLength, linesLength, widthOf};
-ghost use Rattle.file_report.specs.Answer.{reportingSaid};
 use file_reading::FILTER_BYTES;
 use file_reading::FRAME_BYTES;
 use file_reading::Reading;
 use filter_matcher::Matching;
 use filter_matcher::shown::Shown;
 use refusals::Refusal;
-
-pub enum Reporting {
-    Reported(usize),
-    Refused(Refusal),
-}
+use text::Laying;
 
 fn word_at(file: &[u8], at: usize) -> u32
     requires { ⌜ at + 4 ≤ length (now file) ⌝ }
@@ -288,44 +284,44 @@ fn report_good(
     frames: usize,
     second: usize,
     out: &mut [u8],
-) -> Reporting
+) -> Laying
     requires { ⌜ (filters ≤ filterLimit)
         × (first + filterBytes * filters ≤ length (now file))
         × (second + frameBytes * frames ≤ length (now file))
         × (frames ≤ frameLimit) ⌝ }
-    ensures { λ r. ⌜ (reportingSaid r ≡ laying (goodText (now (file .entry)) filters first frames second) (now (out .entry)))
+    ensures { λ r. ⌜ (layingSaid r ≡ laying (goodText (now (file .entry)) filters first frames second) (now (out .entry)))
         × (now (out .exit) ≡ written (laying (goodText (now (file .entry)) filters first frames second) (now (out .entry))) (goodText (now (file .entry)) filters first frames second) (now (out .entry))) ⌝ }
 {
     let lines = lines_length(filters, frames);
     if lines + 14 <= out.len() {
-        return Reporting::Reported(put_good(file, filters, first, frames, second, out));
+        return Laying::Laid(put_good(file, filters, first, frames, second, out));
     }
     let count = accepted(file, filters, first, frames, second);
     let needed = lines + (9 + (text::digits(count) + 1));
     if out.len() < needed {
-        return Reporting::Refused(Refusal::OutputTooShort(needed));
+        return Laying::Refused(Refusal::OutputTooShort(needed));
     }
-    Reporting::Reported(put_good(file, filters, first, frames, second, out))
+    Laying::Laid(put_good(file, filters, first, frames, second, out))
 }
 
-fn report_bad(number: usize, place: usize, out: &mut [u8]) -> Reporting
-    ensures { λ r. ⌜ (reportingSaid r ≡ laying (badText number place) (now (out .entry)))
+fn report_bad(number: usize, place: usize, out: &mut [u8]) -> Laying
+    ensures { λ r. ⌜ (layingSaid r ≡ laying (badText number place) (now (out .entry)))
         × (now (out .exit) ≡ written (laying (badText number place) (now (out .entry))) (badText number place) (now (out .entry))) ⌝ }
 {
     let needed = 8 + (text::digits(number) + (4 + (text::digits(place) + 1)));
     if out.len() < needed {
-        return Reporting::Refused(Refusal::OutputTooShort(needed));
+        return Laying::Refused(Refusal::OutputTooShort(needed));
     }
     let start = text::put_text(out, 0, b"refused ");
     let end = text::put_decimal(out, start, number);
     let at = text::put_text(out, end, b" at ");
     let newline = text::put_decimal(out, at, place);
     out[newline] = 10;
-    Reporting::Reported(needed)
+    Laying::Laid(needed)
 }
 
-pub fn report(file: &[u8], out: &mut [u8]) -> Reporting
-    ensures { λ r. ⌜ reportingSaid r ≡ laying (textOf (now (file .entry))) (now (out .entry)) ⌝ }
+pub fn report(file: &[u8], out: &mut [u8]) -> Laying
+    ensures { λ r. ⌜ layingSaid r ≡ laying (textOf (now (file .entry))) (now (out .entry)) ⌝ }
     ensures { λ _. ⌜ now (out .exit) ≡ written (laying (textOf (now (file .entry))) (now (out .entry))) (textOf (now (file .entry))) (now (out .entry)) ⌝ }
 {
     let reading = file_reading::read_file(file);

@@ -2,15 +2,19 @@
 use libc::STDERR_FILENO;
 use libc::STDOUT_FILENO;
 use standard_input::Input;
+use text::Laying;
 
 // No text is longer than the buffer.
 fn print_text(extended: bool, list: &[u8]) {
     let mut text = [0u8; 128];
-    let answer = filter_report::filter_text(extended, list, &mut text);
-    let length = answer.value as usize;
-    if answer.number == 0 {
-        if length <= 128 {
-            io::write_all(STDOUT_FILENO, &text[..length]);
+    match filter_report::filter_text(extended, list, &mut text) {
+        Laying::Laid(length) => {
+            if length <= 128 {
+                io::write_all(STDOUT_FILENO, &text[..length]);
+            }
+        }
+        Laying::Refused(_) => {
+            io::write_all(STDERR_FILENO, b"the text is longer than can be\n");
         }
     }
 }

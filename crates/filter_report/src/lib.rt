@@ -4,14 +4,14 @@ ghost use mathlib.Core.List.{List, _++_};
 ghost use Prim.Native.Nat.{ℕ, _+_, _*_, _/_, _^_, _<_, _≤_};
 ghost use lib.ListN.{length, take, drop};
 ghost use Rattle.laws.specs.Laid.{laidFirst, laid, laying, written};
+ghost use Rattle.text.specs.Laying.{layingSaid};
 ghost use Rattle.identifiers.specs.Limits.{limitOf};
 ghost use Rattle.filter_list.specs.Answers.{firstAbove};
-ghost use Rattle.abi_answers.specs.Answers.{answerOf};
 ghost use Rattle.filter_report.specs.Line.{isBlank, ends as Line·ends, unblanked, digitOf, baseOf, judged as Line·judged, numberFrom, numberOf, isHex, wordOf, lineOf};
 ghost use Rattle.filter_report.specs.Lines.{lineLength, identifiersOf, faulty, faultAt, foundIn, readingFound, readingWithin};
 ghost use Rattle.filter_report.specs.Text.{textLimit, hexDigit, hexOf, throughIn, linesText, filterText, aboveText, faultText, listText, foundText, textOf};
-use abi_answers::Answer;
 use filter_list::Listing;
+use text::Laying;
 
 // A longer text is not read.
 pub const TEXT_LIMIT: usize = 65536;
@@ -404,11 +404,11 @@ fn put_whole(extended: bool, text: &[u8], page: &mut [u8]) -> usize
     put_read(extended, text, page)
 }
 
-pub fn filter_text(extended: bool, text: &[u8], out: &mut [u8]) -> Answer
-    ensures { λ r. ⌜ r ≡ answerOf (laying (textOf extended (now (text .entry))) (now (out .entry))) ⌝ }
+pub fn filter_text(extended: bool, text: &[u8], out: &mut [u8]) -> Laying
+    ensures { λ r. ⌜ layingSaid r ≡ laying (textOf extended (now (text .entry))) (now (out .entry)) ⌝ }
     ensures { λ _. ⌜ now (out .exit) ≡ written (laying (textOf extended (now (text .entry))) (now (out .entry))) (textOf extended (now (text .entry))) (now (out .entry)) ⌝ }
 {
     let mut page = [0u8; 128];
     let length = put_whole(extended, text, &mut page);
-    abi_answers::lay(&page[..length], out)
+    text::lay(&page[..length], out)
 }

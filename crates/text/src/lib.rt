@@ -1,10 +1,18 @@
 // Texts and numbers put into a lent output, each where it fits, and the place behind it; where it does not fit, all stays.
+// A whole text laid into one, and its length, or the refusal.
 ghost use mathlib.Core.Path.{_≡_};
 ghost use Prim.Native.Nat.{_+_, _/_, _≤_};
 ghost use lib.ListN.{length};
-ghost use Rattle.laws.specs.Laid.{laid};
+ghost use Rattle.laws.specs.Laid.{laid, laying, written};
 ghost use Rattle.text.specs.Decimal.{decimal};
 ghost use Rattle.text.specs.Put.{placeBehind, putAt};
+ghost use Rattle.text.specs.Laying.{layingSaid};
+use refusals::Refusal;
+
+pub enum Laying {
+    Laid(usize),
+    Refused(Refusal),
+}
 
 // No number has more digits.
 const MOST_DIGITS: usize = 20;
@@ -75,4 +83,16 @@ pub fn put_text(out: &mut [u8], at: usize, text: &[u8]) -> usize
         i += 1;
     }
     at + i
+}
+
+// A text, or any bytes, into the front of an output.
+pub fn lay(text: &[u8], out: &mut [u8]) -> Laying
+    ensures { λ r. ⌜ layingSaid r ≡ laying (now (text .entry)) (now (out .entry)) ⌝ }
+    ensures { λ _. ⌜ now (out .exit) ≡ written (laying (now (text .entry)) (now (out .entry))) (now (text .entry)) (now (out .entry)) ⌝ }
+{
+    let length = text.len();
+    if put_text(out, 0, text) < length {
+        return Laying::Refused(Refusal::OutputTooShort(length));
+    }
+    Laying::Laid(length)
 }

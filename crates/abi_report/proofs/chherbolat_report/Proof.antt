@@ -2,7 +2,7 @@
 use mathlib.Core.Path.{ap, sym, _∙_}
 use borrow.Author.Needs.{needs}
 use Rattle.abi_answers.specs.Answers.{answerOf}
-use Rattle.file_report.specs.Answer.{reportingSaid}
+use Rattle.text.specs.Laying.{layingSaid}
 use Rattle.abi_report.proofs.chherbolat_report.Statement.{statement}
 use Rattle.abi_report.proofs.chherbolat_report.Tie as tie
 
@@ -25,13 +25,13 @@ same-length : tie.Need-same-length
 same-length c = search needs
 
 returns : tie.Need-returns
-returns c = (c .given .ensures ∙ ap answerOf (sym (ap reportingSaid (c .before .before .length .given .1)) ∙ c .before .before .before .before .before .before .report .ensures .0), c .before .before .before .before .before .before .report .ensures .1)
+returns c = (c .given .ensures ∙ ap answerOf (sym (ap layingSaid (c .before .before .length .given .1)) ∙ c .before .before .before .before .before .before .report .ensures .0), c .before .before .before .before .before .before .report .ensures .1)
 
 same-length-2 : tie.Need-same-length-2
 same-length-2 c = search needs
 
 returns-2 : tie.Need-returns-2
-returns-2 c = (c .refused .ensures ∙ ap answerOf (sym (ap reportingSaid (c .before .before .refusal .given .1)) ∙ c .before .before .before .before .before .before .report .ensures .0), c .before .before .before .before .before .before .report .ensures .1)
+returns-2 c = (c .refused .ensures ∙ ap answerOf (sym (ap layingSaid (c .before .before .refusal .given .1)) ∙ c .before .before .before .before .before .before .report .ensures .0), c .before .before .before .before .before .before .report .ensures .1)
 
 pub chherbolat-report-spec : {M : Type 1} → statement M
 chherbolat-report-spec =

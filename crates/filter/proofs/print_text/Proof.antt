@@ -1,7 +1,7 @@
 -- `filter::print_text` is safe: the text that is written is a part of the buffer. Assumes nothing.
 use mathlib.Core.Path.{sym}
-use lib.Seq.{length-take-le}
 use native.Mathlib.Omega.{arith}
+use lib.Seq.{length-take-le}
 use borrow.Author.Needs.{needs}
 use Rattle.filter.proofs.print_text.Statement.{statement}
 use Rattle.filter.proofs.print_text.Tie as tie
@@ -12,14 +12,26 @@ slice-aggregate-filter-text c = search needs
 filter-text-requires : tie.Need-filter-text-requires
 filter-text-requires c κs = search needs
 
+enum-known-length : tie.Need-enum-known-length
+enum-known-length c = search needs
+
 array-share-prefix-text : tie.Need-array-share-prefix-text
 array-share-prefix-text c = search needs
 
 slice-aggregate-write-all : tie.Need-slice-aggregate-write-all
-slice-aggregate-write-all c = sym (length-take-le _ (c .before .before .before .before .before .filter-text .last .1 .1 .0) (omega (arith, c .before .before .before .before .before .filter-text .kept .1 .1 .0, c .before .if2 .taken)))
+slice-aggregate-write-all c = sym (length-take-le (c .before .before .before .length .given .0 .0) (c .before .before .before .before .before .before .filter-text .last .1 .1 .0) (omega (arith, c .before .before .before .before .before .before .filter-text .kept .1 .1 .0, c .before .if1 .taken)))
 
 write-all-requires : tie.Need-write-all-requires
 write-all-requires c κs = search needs
+
+enum-told : tie.Need-enum-told
+enum-told c = search needs
+
+slice-aggregate-write-all-2 : tie.Need-slice-aggregate-write-all-2
+slice-aggregate-write-all-2 c = search needs
+
+write-all-requires-2 : tie.Need-write-all-requires-2
+write-all-requires-2 c κs = search needs
 
 returns : tie.Need-returns
 returns c = search needs
@@ -36,9 +48,13 @@ print-text-spec =
     (tie.spec
     slice-aggregate-filter-text
     filter-text-requires
+    enum-known-length
     array-share-prefix-text
     slice-aggregate-write-all
     write-all-requires
+    enum-told
+    slice-aggregate-write-all-2
+    write-all-requires-2
     returns
     returns-2
     returns-3)

@@ -7,7 +7,6 @@ use lib.Seq.{length-take-le}
 use native.Mathlib.Omega.{arith}
 use borrow.Author.Needs.{needs}
 use Rattle.laws.specs.Laid.{laying, written}
-use Rattle.abi_answers.specs.Answers.{answerOf}
 use Rattle.filter_report.specs.Text.{textOf}
 use Rattle.filter_report.proofs.Listed.{front-is}
 use Rattle.filter_report.proofs.filter_text.Statement.{statement}
@@ -35,7 +34,7 @@ returns : tie.Need-returns
 returns c = let out = c .before .before .before .before .before .before .before .before .before .before .args .out .now in
     let text = textOf (c .before .before .before .before .before .before .before .before .before .before .args .extended) (c .before .before .before .before .before .before .before .before .before .before .args .text .now) in
     let front : take (c .before .before .before .before .before .before .put-whole .result) (c .before .before .before .before .before .before .put-whole .last .1 .1 .0) ≡ text = front-is text (replicate 128 0) (c .before .before .before .before .before .before .put-whole .last .1 .1 .0) (c .before .before .before .before .before .before .put-whole .result) (c .before .before .before .before .before .before .put-whole .ensures .0) (c .before .before .before .before .before .before .put-whole .ensures .1) in
-    (c .before .before .lay .ensures .0 ∙ ap (λ (t : List ℕ). answerOf (laying t out)) front, c .before .before .lay .ensures .1 ∙ ap (λ (t : List ℕ). written (laying t out) t out) front)
+    (c .before .before .lay .ensures .0 ∙ ap (λ (t : List ℕ). laying t out) front, c .before .before .lay .ensures .1 ∙ ap (λ (t : List ℕ). written (laying t out) t out) front)
 
 pub filter-text-spec : {M : Type 1} → statement M
 filter-text-spec =
