@@ -8,7 +8,10 @@ use lib.ListN.{length, replicate}
 use Rattle.laws.specs.Row.{bit}
 use Rattle.laws.specs.Said.{Said, refuses, gives}
 use Rattle.laws.specs.Laid.{laying, written}
+use Rattle.refusals.specs.Table.{refusalSaid}
 use Rattle.abi_answers.specs.declared.Answer.{Answer}
+use Rattle.abi_answers.specs.declared.Delivery.{Delivery}
+use Rattle.abi_answers.specs.declared.Delivery.the-variants as delivery
 
 -- number 0 and what is given, or the refusal's number and what it carries
 abbrev pub answerOf : Said ℕ → Answer
@@ -30,6 +33,10 @@ whole = sized 13
 -- a slice in the front of n zeros, where there is room for it
 abbrev pub laidInto : ℕ → List ℕ → List ℕ
 laidInto n slice = written (laying slice (replicate n 0)) slice (replicate n 0)
+
+abbrev pub deliverySaid : Delivery → Said ℕ
+deliverySaid (delivery.Given value) = gives value
+deliverySaid (delivery.Refused refusal) = refusalSaid refusal
 
 -- an answer with bytes beside it, delivered into a lent slice of n bytes
 abbrev pub delivering : ℕ → ℕ → List ℕ → Said ℕ × List ℕ → Said ℕ

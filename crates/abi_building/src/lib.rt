@@ -1,12 +1,11 @@
 // Frames built from plain numbers and bytes, into a lent slice of 13 bytes (docs/ABI.md).
 ghost use mathlib.Core.Path.{_≡_};
 ghost use mathlib.Core.Bool.{true, false};
-ghost use lib.ListN.{length};
-ghost use Rattle.laws.specs.Laid.{written};
 ghost use Rattle.frame_building.specs.Building.{builtSaid};
-ghost use Rattle.abi_answers.specs.Answers.{answerOf};
+ghost use Rattle.abi_answers.specs.Answers.{answerOf, delivering, deliveryLeaves};
 ghost use Rattle.abi_building.specs.Building.{idFrom, plain, plainData, building, buildingLeaves};
 use abi_answers::Answer;
+use abi_answers::Delivery;
 use frame_building::Building;
 use frame_building::Built;
 use frame_reading::Identified;
@@ -28,17 +27,45 @@ fn id_of(extended: bool, raw: u32) -> Identified
     Identified::Refused(Refusal::IdentifierAboveLimit(0))
 }
 
-// The answer of building, and the buffer in a lent frame of 13 bytes.
-fn deliver(built: Built, frame: &mut [u8]) -> Answer
-    requires { ⌜ length (now frame) ≡ 13 ⌝ }
-    ensures { λ r. ⌜ r ≡ answerOf (builtSaid built .0) ⌝ }
-    ensures { λ _. ⌜ now (frame .exit) ≡ written (builtSaid built .0) (built .frame) (now (frame .entry)) ⌝ }
+// The answer of building, and the buffer in a lent frame, the argument of this number.
+fn deliver(built: Built, argument: usize, frame: &mut [u8]) -> Answer
+    ensures { λ r. ⌜ r ≡ answerOf (delivering 13 argument (now (frame .entry)) (builtSaid built)) ⌝ }
+    ensures { λ _. ⌜ now (frame .exit) ≡ deliveryLeaves 13 argument (now (frame .entry)) (builtSaid built) ⌝ }
 {
     let answer = built.answer;
     let bytes = built.frame;
     match answer {
-        Building::Made => abi_answers::lay(&bytes, frame),
-        Building::Refused(refusal) => abi_answers::refused(refusal),
+        Building::Made => abi_answers::deliver(Delivery::Given(13), &bytes, argument, frame),
+        Building::Refused(refusal) => {
+            abi_answers::deliver(Delivery::Refused(refusal), &bytes, argument, frame)
+        }
+    }
+}
+
+// What is built of plain numbers, into a lent frame, the argument of this number.
+fn build(
+    extended: bool,
+    id: u32,
+    remote: bool,
+    own: bool,
+    dlc: usize,
+    data: &[u8],
+    argument: usize,
+    frame: &mut [u8],
+) -> Answer
+    ensures { λ r. ⌜ r ≡ answerOf (building argument (now (frame .entry)) (plain extended id remote own dlc (now («data» .entry)))) ⌝ }
+    ensures { λ _. ⌜ now (frame .exit) ≡ buildingLeaves argument (now (frame .entry)) (plain extended id remote own dlc (now («data» .entry))) ⌝ }
+{
+    if frame.len() != 13 {
+        return abi_answers::wrong_length(argument);
+    }
+    match id_of(extended, id) {
+        Identified::Read(id) => deliver(
+            frame_building::new_from_parameters(id, remote, own, dlc, data),
+            argument,
+            frame,
+        ),
+        Identified::Refused(refusal) => abi_answers::refused(refusal),
     }
 }
 
@@ -55,16 +82,7 @@ pub extern "C" fn chherbolat_new_from_parameters(
     ensures { λ r. ⌜ r ≡ answerOf (building 6 (now (frame .entry)) (plain extended id remote own dlc (now («data» .entry)))) ⌝ }
     ensures { λ _. ⌜ now (frame .exit) ≡ buildingLeaves 6 (now (frame .entry)) (plain extended id remote own dlc (now («data» .entry))) ⌝ }
 {
-    if frame.len() != 13 {
-        return abi_answers::wrong_length(6);
-    }
-    match id_of(extended, id) {
-        Identified::Read(id) => deliver(
-            frame_building::new_from_parameters(id, remote, own, dlc, data),
-            frame,
-        ),
-        Identified::Refused(refusal) => abi_answers::refused(refusal),
-    }
+    build(extended, id, remote, own, dlc, data, 6, frame)
 }
 
 #[no_mangle]
@@ -72,13 +90,7 @@ pub extern "C" fn chherbolat_new(extended: bool, id: u32, data: &[u8], frame: &m
     ensures { λ r. ⌜ r ≡ answerOf (building 3 (now (frame .entry)) (plainData extended id false (now («data» .entry)))) ⌝ }
     ensures { λ _. ⌜ now (frame .exit) ≡ buildingLeaves 3 (now (frame .entry)) (plainData extended id false (now («data» .entry))) ⌝ }
 {
-    if frame.len() != 13 {
-        return abi_answers::wrong_length(3);
-    }
-    match id_of(extended, id) {
-        Identified::Read(id) => deliver(frame_building::new(id, data), frame),
-        Identified::Refused(refusal) => abi_answers::refused(refusal),
-    }
+    build(extended, id, false, false, data.len(), data, 3, frame)
 }
 
 #[no_mangle]
@@ -91,11 +103,5 @@ pub extern "C" fn chherbolat_new_self_reception(
     ensures { λ r. ⌜ r ≡ answerOf (building 3 (now (frame .entry)) (plainData extended id true (now («data» .entry)))) ⌝ }
     ensures { λ _. ⌜ now (frame .exit) ≡ buildingLeaves 3 (now (frame .entry)) (plainData extended id true (now («data» .entry))) ⌝ }
 {
-    if frame.len() != 13 {
-        return abi_answers::wrong_length(3);
-    }
-    match id_of(extended, id) {
-        Identified::Read(id) => deliver(frame_building::new_self_reception(id, data), frame),
-        Identified::Refused(refusal) => abi_answers::refused(refusal),
-    }
+    build(extended, id, false, true, data.len(), data, 3, frame)
 }

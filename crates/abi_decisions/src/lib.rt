@@ -1,7 +1,6 @@
 // The three decisions for other languages: the answer, the command and whether a frame is in flight, in one number (docs/ABI.md).
 ghost use mathlib.Core.Path.{_≡_};
 ghost use Prim.Native.Nat.{_≤_};
-ghost use Rattle.laws.specs.Row.{bit};
 ghost use Rattle.laws.specs.Said.{gives};
 ghost use Rattle.abi_answers.specs.Answers.{answerOf};
 ghost use Rattle.status_decisions.specs.Answers.{commandSaid, transmitSaid, pollSaid, receiveSaid};
@@ -59,15 +58,6 @@ fn receive_number(answer: ReceiveAnswer) -> u64
     }
 }
 
-fn flight_number(in_flight: bool) -> u64
-    ensures { λ r. ⌜ (r ≡ bit «in_flight») × (r ≤ 1) ⌝ }
-{
-    if in_flight {
-        return 1;
-    }
-    0
-}
-
 #[no_mangle]
 pub extern "C" fn chherbolat_transmit(status: u32, error_passive: bool) -> Answer
     ensures { λ r. ⌜ r ≡ answerOf (gives (decided (transmitOf status «error_passive»))) ⌝ }
@@ -85,7 +75,7 @@ pub extern "C" fn chherbolat_poll(status: u32, error_passive: bool, in_flight: b
     let answer = decision.answer;
     let command = decision.command;
     let number = poll_number(answer) + command_number(command) * 256;
-    abi_answers::given(number + flight_number(decision.in_flight) * 65536)
+    abi_answers::given(number + octets::one_bit(decision.in_flight) as u64 * 65536)
 }
 
 #[no_mangle]

@@ -21,7 +21,7 @@ pub extern "C" fn chherbolat_single_standard_filter_new(
     ensures { λ r. ⌜ r ≡ answerOf (delivering 8 4 (now (registers .entry)) (compileOf singleStandard (now (id .entry) ∷ now (rtr .entry) ∷ now (first .entry) ∷ now (second .entry) ∷ []))) ⌝ }
     ensures { λ _. ⌜ now (registers .exit) ≡ deliveryLeaves 8 4 (now (registers .entry)) (compileOf singleStandard (now (id .entry) ∷ now (rtr .entry) ∷ now (first .entry) ∷ now (second .entry) ∷ [])) ⌝ }
 {
-    abi_answers::deliver(
+    abi_answers::deliver_registers(
         SingleStandardFilter::new(id, rtr, first, second),
         4,
         registers,
@@ -37,7 +37,7 @@ pub extern "C" fn chherbolat_single_extended_filter_new(
     ensures { λ r. ⌜ r ≡ answerOf (delivering 8 2 (now (registers .entry)) (compileOf singleExtended (now (id .entry) ∷ now (rtr .entry) ∷ []))) ⌝ }
     ensures { λ _. ⌜ now (registers .exit) ≡ deliveryLeaves 8 2 (now (registers .entry)) (compileOf singleExtended (now (id .entry) ∷ now (rtr .entry) ∷ [])) ⌝ }
 {
-    abi_answers::deliver(SingleExtendedFilter::new(id, rtr), 2, registers)
+    abi_answers::deliver_registers(SingleExtendedFilter::new(id, rtr), 2, registers)
 }
 
 #[no_mangle]
@@ -52,7 +52,7 @@ pub extern "C" fn chherbolat_dual_standard_filter_new(
     ensures { λ r. ⌜ r ≡ answerOf (delivering 8 5 (now (registers .entry)) (compileOf dualStandard (now («first_id» .entry) ∷ now («first_rtr» .entry) ∷ now («first_payload» .entry) ∷ now («second_id» .entry) ∷ now («second_rtr» .entry) ∷ []))) ⌝ }
     ensures { λ _. ⌜ now (registers .exit) ≡ deliveryLeaves 8 5 (now (registers .entry)) (compileOf dualStandard (now («first_id» .entry) ∷ now («first_rtr» .entry) ∷ now («first_payload» .entry) ∷ now («second_id» .entry) ∷ now («second_rtr» .entry) ∷ [])) ⌝ }
 {
-    abi_answers::deliver(
+    abi_answers::deliver_registers(
         DualStandardFilter::new(first_id, first_rtr, first_payload, second_id, second_rtr),
         5,
         registers,
@@ -68,5 +68,5 @@ pub extern "C" fn chherbolat_dual_extended_filter_new(
     ensures { λ r. ⌜ r ≡ answerOf (delivering 8 2 (now (registers .entry)) (compileOf dualExtended (now (first .entry) ∷ now (second .entry) ∷ []))) ⌝ }
     ensures { λ _. ⌜ now (registers .exit) ≡ deliveryLeaves 8 2 (now (registers .entry)) (compileOf dualExtended (now (first .entry) ∷ now (second .entry) ∷ [])) ⌝ }
 {
-    abi_answers::deliver(DualExtendedFilter::new(first, second), 2, registers)
+    abi_answers::deliver_registers(DualExtendedFilter::new(first, second), 2, registers)
 }

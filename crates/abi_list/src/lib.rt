@@ -4,28 +4,11 @@ ghost use lib.ListN.{length};
 ghost use Rattle.laws.specs.Laid.{written};
 ghost use Rattle.identifiers.specs.Limits.{widthOf};
 ghost use Rattle.filter_list.specs.Pattern.{patternOf};
-ghost use Rattle.filter_list.specs.Answers.{listedOf, listedSaid};
+ghost use Rattle.filter_list.specs.Answers.{listedOf};
 ghost use Rattle.abi_answers.specs.Answers.{answerOf, delivering, deliveryLeaves};
 use abi_answers::Answer;
-use filter_list::Listed;
+use abi_answers::Delivery;
 use filter_list::Listing;
-
-// The answer to a list, and the registers in a lent slice of 8 bytes.
-fn deliver(listed: Listed, registers: &mut [u8]) -> Answer
-    requires { ⌜ length (now registers) ≡ 8 ⌝ }
-    ensures { λ r. ⌜ r ≡ answerOf (listedSaid listed .0) ⌝ }
-    ensures { λ _. ⌜ now (registers .exit) ≡ written (listedSaid listed .0) (listed .registers) (now (registers .entry)) ⌝ }
-{
-    let answer = listed.answer;
-    let bytes = listed.registers;
-    match answer {
-        Listing::Made(through) => {
-            abi_answers::lay(&bytes, registers);
-            abi_answers::given(through as u64)
-        }
-        Listing::Refused(refusal) => abi_answers::refused(refusal),
-    }
-}
 
 #[no_mangle]
 pub extern "C" fn chherbolat_filter_from_list(
@@ -41,5 +24,15 @@ pub extern "C" fn chherbolat_filter_from_list(
     if registers.len() != 8 {
         return abi_answers::wrong_length(3);
     }
-    deliver(filter_list::from_list(extended, list, pattern), registers)
+    let listed = filter_list::from_list(extended, list, pattern);
+    let answer = listed.answer;
+    let bytes = listed.registers;
+    match answer {
+        Listing::Made(through) => {
+            abi_answers::deliver(Delivery::Given(through as u64), &bytes, 3, registers)
+        }
+        Listing::Refused(refusal) => {
+            abi_answers::deliver(Delivery::Refused(refusal), &bytes, 3, registers)
+        }
+    }
 }

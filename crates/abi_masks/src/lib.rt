@@ -29,7 +29,7 @@ pub extern "C" fn chherbolat_single_standard_filter_new_from_code_mask(
     ensures { λ r. ⌜ r ≡ answerOf (delivering 8 8 (now (registers .entry)) (codeMaskOf singleStandard (bothWithin false «id_code» «id_mask») («id_code» ∷ bit «rtr_code» ∷ «first_code» ∷ «second_code» ∷ []) («id_mask» ∷ bit «rtr_mask» ∷ «first_mask» ∷ «second_mask» ∷ []))) ⌝ }
     ensures { λ _. ⌜ now (registers .exit) ≡ deliveryLeaves 8 8 (now (registers .entry)) (codeMaskOf singleStandard (bothWithin false «id_code» «id_mask») («id_code» ∷ bit «rtr_code» ∷ «first_code» ∷ «second_code» ∷ []) («id_mask» ∷ bit «rtr_mask» ∷ «first_mask» ∷ «second_mask» ∷ [])) ⌝ }
 {
-    abi_answers::deliver(
+    abi_answers::deliver_registers(
         SingleStandardFilter::new_from_code_mask(
             StandardId(id_code),
             StandardId(id_mask),
@@ -56,7 +56,7 @@ pub extern "C" fn chherbolat_single_extended_filter_new_from_code_mask(
     ensures { λ r. ⌜ r ≡ answerOf (delivering 8 4 (now (registers .entry)) (codeMaskOf singleExtended (bothWithin true «id_code» «id_mask») («id_code» ∷ bit «rtr_code» ∷ []) («id_mask» ∷ bit «rtr_mask» ∷ []))) ⌝ }
     ensures { λ _. ⌜ now (registers .exit) ≡ deliveryLeaves 8 4 (now (registers .entry)) (codeMaskOf singleExtended (bothWithin true «id_code» «id_mask») («id_code» ∷ bit «rtr_code» ∷ []) («id_mask» ∷ bit «rtr_mask» ∷ [])) ⌝ }
 {
-    abi_answers::deliver(
+    abi_answers::deliver_registers(
         SingleExtendedFilter::new_from_code_mask(
             ExtendedId(id_code),
             ExtendedId(id_mask),
@@ -85,7 +85,7 @@ pub extern "C" fn chherbolat_dual_standard_filter_new_from_code_mask(
     ensures { λ r. ⌜ r ≡ answerOf (delivering 8 10 (now (registers .entry)) (codeMaskOf dualStandard (bothWithin false «first_id_code» «first_id_mask» && bothWithin false «second_id_code» «second_id_mask») («first_id_code» ∷ bit «first_rtr_code» ∷ «first_payload_code» ∷ «second_id_code» ∷ bit «second_rtr_code» ∷ []) («first_id_mask» ∷ bit «first_rtr_mask» ∷ «first_payload_mask» ∷ «second_id_mask» ∷ bit «second_rtr_mask» ∷ []))) ⌝ }
     ensures { λ _. ⌜ now (registers .exit) ≡ deliveryLeaves 8 10 (now (registers .entry)) (codeMaskOf dualStandard (bothWithin false «first_id_code» «first_id_mask» && bothWithin false «second_id_code» «second_id_mask») («first_id_code» ∷ bit «first_rtr_code» ∷ «first_payload_code» ∷ «second_id_code» ∷ bit «second_rtr_code» ∷ []) («first_id_mask» ∷ bit «first_rtr_mask» ∷ «first_payload_mask» ∷ «second_id_mask» ∷ bit «second_rtr_mask» ∷ [])) ⌝ }
 {
-    abi_answers::deliver(
+    abi_answers::deliver_registers(
         DualStandardFilter::new_from_code_mask(
             StandardId(first_id_code),
             StandardId(first_id_mask),
@@ -114,7 +114,7 @@ pub extern "C" fn chherbolat_dual_extended_filter_new_from_code_mask(
     ensures { λ r. ⌜ r ≡ answerOf (delivering 8 4 (now (registers .entry)) (codeMaskOf dualExtended true («first_code» ∷ «second_code» ∷ []) («first_mask» ∷ «second_mask» ∷ []))) ⌝ }
     ensures { λ _. ⌜ now (registers .exit) ≡ deliveryLeaves 8 4 (now (registers .entry)) (codeMaskOf dualExtended true («first_code» ∷ «second_code» ∷ []) («first_mask» ∷ «second_mask» ∷ [])) ⌝ }
 {
-    abi_answers::deliver(
+    abi_answers::deliver_registers(
         DualExtendedFilter::new_from_code_mask(first_code, second_code, first_mask, second_mask),
         4,
         registers,

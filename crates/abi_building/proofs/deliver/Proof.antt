@@ -1,49 +1,75 @@
--- `abi_building::deliver` meets its contract: what was made is laid into the lent slice, which it fills, and a refusal leaves all. Assumes nothing.
+-- `abi_building::deliver` meets its contract: what building answered is delivered, and a buffer has 13 bytes. Assumes nothing.
 use Prim.Native.Nat.{ℕ}
-use mathlib.Core.Path.{_≡_, ap, _∙_}
+use mathlib.Core.Path.{_≡_, sym, ap, ap₂, _∙_}
 use lib.ListN.{length}
 use borrow.Author.Needs.{needs}
-use Rattle.laws.specs.Said.{Said, gives}
-use Rattle.laws.specs.Laid.{laying, written}
-use Rattle.abi_answers.specs.Answers.{answerOf}
-use Rattle.abi_answers.proofs.Whole.{lays}
+use Rattle.laws.specs.Said.{Said}
+use Rattle.frame_building.specs.Building.{buildingSaid}
+use Rattle.abi_answers.specs.Answers.{answerOf, delivering, deliveryLeaves}
 use Rattle.abi_building.proofs.deliver.Statement.{statement}
 use Rattle.abi_building.proofs.deliver.Tie as tie
 
 enum-told : tie.Need-enum-told
 enum-told c = search needs
 
-slice-aggregate-lay : tie.Need-slice-aggregate-lay
-slice-aggregate-lay c = search needs
+slice-aggregate-deliver : tie.Need-slice-aggregate-deliver
+slice-aggregate-deliver c = search needs
 
-lay-requires : tie.Need-lay-requires
-lay-requires c κs = search needs
+deliver-requires : tie.Need-deliver-requires
+deliver-requires c κs = search needs
 
 enum-known-answer : tie.Need-enum-known-answer
 enum-known-answer c = search needs
 
-refused-requires : tie.Need-refused-requires
-refused-requires c κs = search needs
+slice-aggregate-deliver-2 : tie.Need-slice-aggregate-deliver-2
+slice-aggregate-deliver-2 c = search needs
+
+deliver-requires-2 : tie.Need-deliver-requires-2
+deliver-requires-2 c κs = search needs
 
 same-length : tie.Need-same-length
 same-length c = search needs
 
 returns : tie.Need-returns
-returns c = let long : length (c .before .before .before .before .before .before .before .before .before .args .built .frame) ≡ 13 = search needs in let laid : laying (c .before .before .before .before .before .before .before .before .before .args .built .frame) (c .before .before .before .before .before .before .before .before .before .args .frame .now) ≡ gives 13 = lays 13 _ _ long (c .before .before .before .before .before .before .before .before .before .pre) in (rw (c .before .before .before .before .before .enum-told .given .1) (c .before .before .lay .ensures .0 ∙ ap answerOf laid), rw (c .before .before .before .before .before .enum-told .given .1) (c .before .before .lay .ensures .1 ∙ ap (λ (s : Said ℕ). written s (c .before .before .before .before .before .before .before .before .before .args .built .frame) (c .before .before .before .before .before .before .before .before .before .args .frame .now)) laid))
+returns c =
+    let delivered = c .before .before in
+    let told = delivered .before .before .before in
+    let start = told .before .before .before .before in
+    let bytes = start .args .built .frame in
+    let frame = start .args .frame .now in
+    let long : length bytes ≡ 13 = search (needs, start .good) in
+    let said = sym (ap buildingSaid (told .enum-told .given .1)) in (
+      delivered .deliver .ensures .0 ∙ ap₂ (λ (n : ℕ) (s : Said ℕ). answerOf (delivering n (start .args .argument) frame (s, bytes))) long said,
+      delivered .deliver .ensures .1 ∙ ap₂ (λ (n : ℕ) (s : Said ℕ). deliveryLeaves n (start .args .argument) frame (s, bytes)) long said,
+    )
+
+same-length-2 : tie.Need-same-length-2
+same-length-2 c = search needs
 
 returns-2 : tie.Need-returns-2
-unfolding written
-returns-2 c = (rw (c .before .before .answer .given .1) (c .refused .ensures), rw (c .before .before .answer .given .1))
+returns-2 c =
+    let delivered = c .before .before in
+    let told = delivered .before .before .before in
+    let start = told .before .before .before .before .before in
+    let bytes = start .args .built .frame in
+    let frame = start .args .frame .now in
+    let long : length bytes ≡ 13 = search (needs, start .good) in
+    let said = sym (ap buildingSaid (told .before .answer .given .1)) in (
+      delivered .deliver2 .ensures .0 ∙ ap₂ (λ (n : ℕ) (s : Said ℕ). answerOf (delivering n (start .args .argument) frame (s, bytes))) long said,
+      delivered .deliver2 .ensures .1 ∙ ap₂ (λ (n : ℕ) (s : Said ℕ). deliveryLeaves n (start .args .argument) frame (s, bytes)) long said,
+    )
 
 pub deliver-spec : {M : Type 1} → statement M
 deliver-spec =
     tie.close
     (tie.spec
     enum-told
-    slice-aggregate-lay
-    lay-requires
+    slice-aggregate-deliver
+    deliver-requires
     enum-known-answer
-    refused-requires
+    slice-aggregate-deliver-2
+    deliver-requires-2
     same-length
     returns
+    same-length-2
     returns-2)

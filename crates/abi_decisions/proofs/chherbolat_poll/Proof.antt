@@ -23,8 +23,11 @@ mul-number c = search needs
 add-number : tie.Need-add-number
 add-number c = search needs
 
-flight-number-requires : tie.Need-flight-number-requires
-flight-number-requires c κs = search needs
+one-bit-requires : tie.Need-one-bit-requires
+one-bit-requires c κs = search needs
+
+cast-given : tie.Need-cast-given
+cast-given c = search needs
 
 mul-given : tie.Need-mul-given
 mul-given c = search needs
@@ -36,7 +39,7 @@ given-requires : tie.Need-given-requires
 given-requires c κs = search needs
 
 returns : tie.Need-returns
-returns c = c .given .ensures ∙ ap (λ (n : ℕ). answerOf (gives n)) (ap₂ (λ (x y : ℕ). x + y * 65536) (ap₂ (λ (a b : ℕ). a + b * 256) (c .before .before .before .poll-number .ensures .0) (c .before .before .command-number .ensures .0)) (c .before .flight-number .ensures .0) ∙ ap polled (c .before .before .before .before .poll .ensures))
+returns c = c .given .ensures ∙ ap (λ (n : ℕ). answerOf (gives n)) (ap₂ (λ (x y : ℕ). x + y * 65536) (ap₂ (λ (a b : ℕ). a + b * 256) (c .before .before .before .poll-number .ensures .0) (c .before .before .command-number .ensures .0)) (c .before .one-bit .ensures .0) ∙ ap polled (c .before .before .before .before .poll .ensures))
 
 pub chherbolat-poll-spec : {M : Type 1} → statement M
 chherbolat-poll-spec =
@@ -47,7 +50,8 @@ chherbolat-poll-spec =
     command-number-requires
     mul-number
     add-number
-    flight-number-requires
+    one-bit-requires
+    cast-given
     mul-given
     add-given
     given-requires

@@ -5,7 +5,7 @@ use mathlib.Core.Path.{_≡_, refl, ap, _∙_}
 use borrow.Author.Needs.{needs}
 use Rattle.laws.specs.Said.{gives}
 use Rattle.abi_answers.specs.Answers.{answerOf}
-use Rattle.status_decisions.specs.Status.{receiveReady, inBusOff, missed}
+use Rattle.status_bits.specs.Status.{receiveReady, inBusOff, missed}
 use Rattle.status_decisions.specs.Answers.{Answer, Action, busOff, done, wouldBlock, nothing, overrun, readAndRelease}
 use Rattle.status_decisions.specs.Decisions.{receiveOf}
 use Rattle.abi_decisions.specs.Numbers.{decided}

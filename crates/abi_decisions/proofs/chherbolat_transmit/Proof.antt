@@ -5,7 +5,7 @@ use mathlib.Core.Path.{_≡_, refl, ap, _∙_}
 use borrow.Author.Needs.{needs}
 use Rattle.laws.specs.Said.{gives}
 use Rattle.abi_answers.specs.Answers.{answerOf}
-use Rattle.status_decisions.specs.Status.{transmitFree, inBusOff}
+use Rattle.status_bits.specs.Status.{transmitFree, inBusOff}
 use Rattle.status_decisions.specs.Answers.{Answer, Action, busOff, done, wouldBlock, nothing, writeFrame}
 use Rattle.status_decisions.specs.Decisions.{transmitOf, notFree}
 use Rattle.abi_decisions.specs.Numbers.{decided}

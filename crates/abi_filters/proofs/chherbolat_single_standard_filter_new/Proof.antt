@@ -6,14 +6,14 @@ use Rattle.abi_filters.proofs.chherbolat_single_standard_filter_new.Tie
 new-requires : tie.Need-new-requires
 new-requires c κs = search needs
 
-deliver-requires : tie.Need-deliver-requires
-deliver-requires c κs = search needs
+deliver-registers-requires : tie.Need-deliver-registers-requires
+deliver-registers-requires c κs = search needs
 
 same-length : tie.Need-same-length
 same-length c = search needs
 
 returns : tie.Need-returns
-returns c = rw (← c .before .before .before .before .new .ensures) (c .before .before .deliver .ensures)
+returns c = rw (← c .before .before .before .before .new .ensures) (c .before .before .deliver-registers .ensures)
 
 pub chherbolat-single-standard-filter-new-spec : {M : Type 1} → statement M
-chherbolat-single-standard-filter-new-spec = tie.close (tie.spec new-requires deliver-requires same-length returns)
+chherbolat-single-standard-filter-new-spec = tie.close (tie.spec new-requires deliver-registers-requires same-length returns)

@@ -6,14 +6,14 @@ use Rattle.abi_masks.proofs.chherbolat_dual_extended_filter_new_from_co
 new-from-code-mask-requires : tie.Need-new-from-code-mask-requires
 new-from-code-mask-requires c κs = search needs
 
-deliver-requires : tie.Need-deliver-requires
-deliver-requires c κs = search needs
+deliver-registers-requires : tie.Need-deliver-registers-requires
+deliver-registers-requires c κs = search needs
 
 same-length : tie.Need-same-length
 same-length c = search needs
 
 returns : tie.Need-returns
-returns c = rw (← c .before .before .before .before .new-from-code-mask .ensures) (c .before .before .deliver .ensures)
+returns c = rw (← c .before .before .before .before .new-from-code-mask .ensures) (c .before .before .deliver-registers .ensures)
 
 pub chherbolat-dual-extended-filter-new-from-code-mask-spec : {M : Type 1} → statement M
-chherbolat-dual-extended-filter-new-from-code-mask-spec = tie.close (tie.spec new-from-code-mask-requires deliver-requires same-length returns)
+chherbolat-dual-extended-filter-new-from-code-mask-spec = tie.close (tie.spec new-from-code-mask-requires deliver-registers-requires same-length returns)
