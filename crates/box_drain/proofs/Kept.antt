@@ -14,7 +14,7 @@ use Rattle.box_queue.specs.Ring.{queueLimit}
 use Rattle.box_queue.proofs.Ring.{queue-ok}
 use Rattle.box_fifo.specs.Ring as F
 use Rattle.box_fifo.specs.Ring.{entryLimit, frontOf, sumTo}
-use Rattle.box_fifo.proofs.Ring.{arrive-enters, release-valid}
+use Rattle.box_fifo.proofs.Ring.{arrive-enters, release-valid, released-long}
 use Rattle.box_words.specs.declared.Words.{Words}
 use Rattle.box_words.specs.Due.{receiveDue, noticeDue}
 use Rattle.box_state.specs.declared.Phase as P
@@ -110,7 +110,14 @@ module _ (g : ReceiveBox) (k : Good g) where
 
   release-kept : receiveDue (g .words) ≡ true → 0 < g .fifo .count → Good (releaseStep g .1)
   unfolding releaseStep
-  release-kept r l = record { fifo = release-valid (g .fifo) (k .fifo) l; queue = k .queue; next = r; entries = k .entries; places = k .places }
+  release-kept r l =
+      record {
+        fifo = release-valid (g .fifo) (k .fifo) l;
+        queue = k .queue;
+        next = r;
+        entries = released-long (g .fifo) ∙ k .entries;
+        places = k .places;
+      }
 
   -- an offer, stored or lost
   offered-by : (b : Bool) → ltb (g .queue .count) queueLimit ≡ b → (x : Record) (c : Command) (p l : P.Phase)

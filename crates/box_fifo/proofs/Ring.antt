@@ -3,19 +3,19 @@ use Prim.Native.Nat.{ℕ, zero, suc, _≤_, _<_, _+_, _-_, _%_}
 use mathlib.Core.Path.{_≡_, refl, sym, ap, _∙_}
 use mathlib.Core.Bool.{Bool, true, false, cond}
 use mathlib.Core.List.{List, [], _∷_, _++_}
-use lib.Dec.{ltb, leb}
+use lib.Dec.{ltb, leb, eqb}
 use lib.ListN.{getD, length, length-set}
 use lib.Seq.{getD-set-same, getD-set-other}
 use native.Mathlib.Numerals.{add-one}
 use native.Mathlib.Omega.{arith}
-use borrow.Author.Tests.{ltb-true, ltb-false, leb-true, leb-false, eqb-true, lt-ltb, le-leb, eq-eqb}
+use borrow.Author.Tests.{ltb-true, ltb-false, leb-true, leb-false, eqb-true, lt-ltb, le-leb, eq-eqb, ne-eqb}
 use Rattle.laws.proofs.Bools.{both-true}
 use Rattle.laws.proofs.Tabulate.{tabulate-ext, tabulate-snoc, tabulate-cons}
 use Rattle.frame_info.specs.Info.{extendedOf, dataLengthOf}
 use Rattle.frame_info.proofs.Info.{data-bound}
 use Rattle.box_fifo.specs.declared.Entry.{Entry}
 use Rattle.box_fifo.specs.declared.Fifo.{Fifo}
-use Rattle.box_fifo.specs.Ring.{entryLimit, weightLimit, weightOf, wholeEntry, markEntry, sumTo, sumOf, fifoOk, entryAt, frontOf, entriesOf, released, pushed, nowhere, arriveOf}
+use Rattle.box_fifo.specs.Ring.{entryLimit, weightLimit, weightOf, wholeEntry, markEntry, sumTo, sumOf, fifoOk, entryAt, frontOf, entriesOf, withoutFront, released, pushed, nowhere, arriveOf}
 
 cond-le : (b : Bool) (x y k : ℕ) → x ≤ k → y ≤ k → cond b x y ≤ k
 cond-le true x y k hx hy = hx
@@ -50,11 +50,11 @@ unfolding fifoOk
 valid-ok f v = simp (lt-ltb _ _ (v .head), le-leb _ _ (v .count), le-leb _ _ (v .weight), eq-eqb _ _ (v .sum))
 
 -- an entry behind the front is one place nearer after the release
-released-at : (f : Fifo) (n : ℕ) → entryAt (released f) n ≡ entryAt f (suc n)
+released-at : (f : Fifo) (n : ℕ) → entryAt (withoutFront f) n ≡ entryAt f (suc n)
 released-at f n = ap (λ (k : ℕ). getD (f .entries) k nowhere) (omega arith)
 
 -- the weight of the first n + 1 is the front's and that of the n behind it
-sum-front : (f : Fifo) (n : ℕ) → sumTo f (suc n) ≡ weightOf (frontOf f) + sumTo (released f) n
+sum-front : (f : Fifo) (n : ℕ) → sumTo f (suc n) ≡ weightOf (frontOf f) + sumTo (withoutFront f) n
 unfolding sumTo
 sum-front f zero = omega arith
 sum-front f (suc n) = omega (arith, ap weightOf (released-at f n), sum-front f n)
@@ -63,14 +63,29 @@ sum-front f (suc n) = omega (arith, ap weightOf (released-at f n), sum-front f n
 some : (n : ℕ) → 0 < n → n ≡ suc (n - 1)
 some n h = omega arith
 
-pub release-valid : (f : Fifo) → Valid f → 0 < f .count → Valid (released f)
-release-valid f v h =
+-- where there is a front, it leaves
+front-leaves : (f : Fifo) → 0 < f .count → released f ≡ withoutFront f
+front-leaves f h = rw (ne-eqb (f .count) 0 (λ e. omega arith))
+
+without-front : (f : Fifo) → Valid f → 0 < f .count → Valid (withoutFront f)
+without-front f v h =
     record {
       head = omega arith;
       count = omega arith;
       weight = omega arith;
       sum = omega (arith, ap (sumTo f) (some (f .count) h), sum-front f (f .count - 1));
     }
+
+pub release-valid : (f : Fifo) → Valid f → 0 < f .count → Valid (released f)
+release-valid f v h = rw (front-leaves f h) (without-front f v h)
+
+-- no place is lost
+pub released-long : (f : Fifo) → length (released f .entries) ≡ length (f .entries)
+released-long f = by (eqb (f .count) 0)
+  where
+    by : (empty : Bool) → length (cond empty f (withoutFront f) .entries) ≡ length (f .entries)
+    by true = refl
+    by false = refl
 
 -- the entries that stand are as they were
 pub pushed-at : (f : Fifo) (e : Entry) (i : ℕ) → f .count < entryLimit → i < f .count → entryAt (pushed f e) i ≡ entryAt f i
@@ -110,8 +125,8 @@ pushed-entries f e s l =
 
 pub released-entries : (f : Fifo) → 0 < f .count → entriesOf f ≡ frontOf f ∷ entriesOf (released f)
 released-entries f l =
-    let rest = tabulate-ext (f .count - 1) (λ i. entryAt f (suc i)) (entryAt (released f)) (λ i k. sym (released-at f i)) in
-    tabulate-cons (f .count) (entryAt f) l ∙ (cc)
+    let rest = tabulate-ext (f .count - 1) (λ i. entryAt f (suc i)) (entryAt (withoutFront f)) (λ i k. sym (released-at f i)) in
+    rw (front-leaves f l) (tabulate-cons (f .count) (entryAt f) l ∙ (cc))
 
 -- what a call leaves of a FIFO that keeps its rules: they hold on, and a front stays where it is
 pub record Entered (f next : Fifo) : Type 0 where

@@ -71,14 +71,18 @@ pushed f e =
     }
 
 -- without its front, whose place is used again
-abbrev pub released : Fifo → Fifo
-released f =
+abbrev pub withoutFront : Fifo → Fifo
+withoutFront f =
     record {
       entries = f .entries;
       head = (f .head + 1) % entryLimit;
       count = f .count - 1;
       weight = f .weight - weightOf (frontOf f);
     }
+
+-- the front leaves; an empty FIFO stays as it is
+abbrev pub released : Fifo → Fifo
+released f = cond (eqb (f .count) 0) f (withoutFront f)
 
 -- what became of an arrival
 pub data Outcome : Type 0 where

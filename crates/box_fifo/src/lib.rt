@@ -153,15 +153,18 @@ impl Fifo {
         self.entries[at]
     }
 
-    // The front leaves.
+    // The front leaves; an empty FIFO stays as it is.
     pub fn release(self) -> Fifo
         ensures { λ r. ⌜ r ≡ released self ⌝ }
     {
+        if self.count == 0 {
+            return self;
+        }
         let front = self.front();
         let off = weight_of(front);
         let mut rest = self;
         rest.head = (self.head % ENTRY_LIMIT + 1) % ENTRY_LIMIT;
-        rest.count = less(self.count, 1);
+        rest.count = self.count - 1;
         rest.weight = less(self.weight, off);
         rest
     }
