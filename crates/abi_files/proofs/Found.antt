@@ -6,18 +6,21 @@ use native.Mathlib.Omega.{arith}
 use Rattle.laws.specs.Row.{unpack, none, field}
 use Rattle.laws.specs.Said.{gives}
 use Rattle.laws.proofs.Row.{unpack-pack}
-use Rattle.file_reading.specs.Reader.{Found, readOf}
+use Rattle.file_reading.specs.declared.Sections.{Sections}
+use Rattle.file_reading.specs.Reader.{readOf}
 use Rattle.file_reading.proofs.Format.{read-good}
 use Rattle.abi_files.specs.Numbers.{foundRow, foundFields, foundNumber}
 
-pub found-fits : (s : List ℕ) (found : Found) → readOf s ≡ gives found
-    → (found .0 < 65536) × (found .2 < 65536) × (found .1 < 65536) × (found .3 < 65536)
-found-fits s found e =
-    let good = read-good s (found .0) (found .1) (found .2) (found .3) e in
+pub found-fits : (s : List ℕ) (sections : Sections) → readOf s ≡ gives sections
+    → (sections .filters < 65536) × (sections .frames < 65536) × (sections .«filters_start» < 65536) × (sections .«frames_start» < 65536)
+found-fits s sections e =
+    let good = read-good s sections e in
     let few = good .0 .filters-within in
     (omega (arith, few), omega (arith, good .0 .frames-within), omega (arith, good .1), omega (arith, few, good .2))
 
-pub found-told : (s : List ℕ) (found : Found) → readOf s ≡ gives found → unpack foundRow (foundNumber found) ≡ foundFields found
-found-told s found e =
-    let fit = found-fits s found e in
-    unpack-pack (field 16 (found .3) (fit .3) (field 16 (found .1) (fit .2) (field 16 (found .2) (fit .1) (field 16 (found .0) (fit .0) none))))
+pub found-told : (s : List ℕ) (sections : Sections) → readOf s ≡ gives sections → unpack foundRow (foundNumber sections) ≡ foundFields sections
+found-told s sections e =
+    let fit = found-fits s sections e in
+    unpack-pack
+    (field 16 (sections .«frames_start») (fit .3)
+    (field 16 (sections .«filters_start») (fit .2) (field 16 (sections .frames) (fit .1) (field 16 (sections .filters) (fit .0) none))))

@@ -3,7 +3,7 @@ ghost use mathlib.Core.Path.{_≡_};
 ghost use Prim.Native.Nat.{_<_};
 ghost use lib.ListN.{length};
 ghost use Rattle.abi_answers.specs.Answers.{answerOf};
-ghost use Rattle.file_reading.specs.Reader.{foundIn, readOf};
+ghost use Rattle.file_reading.specs.Reader.{readOf};
 ghost use Rattle.file_writing.specs.Writer.{writeOf, leaves};
 ghost use Rattle.abi_files.specs.Numbers.{foundNumber, foundSaid};
 use abi_answers::Answer;
@@ -17,7 +17,7 @@ fn found_number(sections: Sections) -> u64
         × (sections .frames < 65536)
         × (sections .«filters_start» < 65536)
         × (sections .«frames_start» < 65536) ⌝ }
-    ensures { λ r. ⌜ r ≡ foundNumber (foundIn sections) ⌝ }
+    ensures { λ r. ⌜ r ≡ foundNumber sections ⌝ }
 {
     let counts = sections.frames as u64 * 0x1_0000 + sections.filters as u64;
     let starts = sections.frames_start as u64 * 0x1_0000 + sections.filters_start as u64;

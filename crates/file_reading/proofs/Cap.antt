@@ -11,13 +11,14 @@ use native.Mathlib.Decide.{decLt}
 use borrow.Author.Tests.{lt-ltb, le-ltb, ltb-false}
 use Rattle.laws.specs.Said.{Said, refuses}
 use Rattle.file_reading.specs.Format.{filterLimit, frameLimit, filterBytes, frameBytes, filtersEnd, longest, countAt}
-use Rattle.file_reading.specs.Reader.{Found, framesFrom, framesAt, filtersFrom, readOf}
+use Rattle.file_reading.specs.declared.Sections.{Sections}
+use Rattle.file_reading.specs.Reader.{sectionsWith, framesFrom, framesAt, filtersFrom, readOf}
 
-frames-same : (k l : ℕ) (found : Found) (n at : ℕ) → at + frameBytes * n < k → at + frameBytes * n < l → framesFrom k found n at ≡ framesFrom l found n at
+frames-same : (k l : ℕ) (sections : Sections) (n at : ℕ) → at + frameBytes * n < k → at + frameBytes * n < l → framesFrom k sections n at ≡ framesFrom l sections n at
 unfolding framesFrom
-frames-same k l found zero at hk hl = rw (lt-ltb at k (omega arith), lt-ltb at l (omega arith))
-frames-same k l found (suc n) at hk hl =
-    rw (le-ltb k (at + frameBytes) (omega arith), le-ltb l (at + frameBytes) (omega arith)) (frames-same k l found n (at + frameBytes) (omega arith) (omega arith))
+frames-same k l sections zero at hk hl = rw (lt-ltb at k (omega arith), lt-ltb at l (omega arith))
+frames-same k l sections (suc n) at hk hl =
+    rw (le-ltb k (at + frameBytes) (omega arith), le-ltb l (at + frameBytes) (omega arith)) (frames-same k l sections n (at + frameBytes) (omega arith) (omega arith))
 
 module _ (t s : List ℕ) (same : (i : ℕ) → i < longest + 1 → getD t i 0 ≡ getD s i 0) (lt : longest < length t) (ls : longest < length s) where
   second-same : (filters at : ℕ) → at ≤ filtersEnd filterLimit → framesAt t filters at ≡ framesAt s filters at
@@ -27,12 +28,12 @@ module _ (t s : List ℕ) (same : (i : ℕ) → i < longest + 1 → getD t i 0 �
       rw (le-ltb (length t) (at + 2) (omega arith), le-ltb (length s) (at + 2) (omega arith), count) (by (ltb frameLimit (countAt s at)) refl)
     where
       by : (above : Bool) → ltb frameLimit (countAt s at) ≡ above
-          → cond above (refuses 12 at) (framesFrom (length t) (filters, 1, countAt s at, at + 2) (countAt s at) (at + 2))
-          ≡ cond above (refuses 12 at) (framesFrom (length s) (filters, 1, countAt s at, at + 2) (countAt s at) (at + 2))
+          → cond above (refuses 12 at) (framesFrom (length t) (sectionsWith filters (countAt s at) (at + 2)) (countAt s at) (at + 2))
+          ≡ cond above (refuses 12 at) (framesFrom (length s) (sectionsWith filters (countAt s at) (at + 2)) (countAt s at) (at + 2))
       by true e = refl
       by false e =
           let few : countAt s at ≤ frameLimit = ltb-false frameLimit (countAt s at) e in
-          frames-same (length t) (length s) (filters, 1, countAt s at, at + 2) (countAt s at) (at + 2) (omega arith) (omega arith)
+          frames-same (length t) (length s) (sectionsWith filters (countAt s at) (at + 2)) (countAt s at) (at + 2) (omega arith) (omega arith)
 
   first-same : (filters n at : ℕ) → at + filterBytes * n ≤ filtersEnd filterLimit → filtersFrom t filters n at ≡ filtersFrom s filters n at
   unfolding filtersFrom
@@ -45,7 +46,7 @@ module _ (t s : List ℕ) (same : (i : ℕ) → i < longest + 1 → getD t i 0 �
         le-ltb (length t) (at + 1 + 8) (omega arith),
         le-ltb (length s) (at + 1 + 8) (omega arith),
       )
-      (ap (λ (r : Said Found). cond (ltb 1 (getD s at 0)) (refuses 7 at) r) (first-same filters n (at + filterBytes) (omega arith)))
+      (ap (λ (r : Said Sections). cond (ltb 1 (getD s at 0)) (refuses 7 at) r) (first-same filters n (at + filterBytes) (omega arith)))
 
   read-same : readOf t ≡ readOf s
   unfolding readOf

@@ -10,13 +10,14 @@ use borrow.Author.Tests.{le-ltb, ltb-false}
 use Rattle.laws.specs.Said.{gives}
 use Rattle.laws.proofs.Said.{passed, gives-same}
 use Rattle.file_reading.specs.Format.{filterLimit, frameLimit, filterBytes, frameBytes, filtersEnd, framesStart, countAt, File}
-use Rattle.file_reading.specs.Reader.{Found, framesFrom, framesAt, filtersFrom, readOf}
+use Rattle.file_reading.specs.declared.Sections.{Sections}
+use Rattle.file_reading.specs.Reader.{sectionsWith, framesFrom, framesAt, filtersFrom, readOf}
 
 -- ---- a file is read
-frames-read : (len : ℕ) (found : Found) (n at : ℕ) → at + frameBytes * n ≡ len → framesFrom len found n at ≡ gives found
+frames-read : (len : ℕ) (sections : Sections) (n at : ℕ) → at + frameBytes * n ≡ len → framesFrom len sections n at ≡ gives sections
 unfolding framesFrom
-frames-read len found zero at e = rw (le-ltb at len (omega arith))
-frames-read len found (suc n) at e = rw (le-ltb len (at + frameBytes) (omega arith)) (frames-read len found n (at + frameBytes) (omega arith))
+frames-read len sections zero at e = rw (le-ltb at len (omega arith))
+frames-read len sections (suc n) at e = rw (le-ltb len (at + frameBytes) (omega arith)) (frames-read len sections n (at + frameBytes) (omega arith))
 
 module _ (s : List ℕ) (filters : ℕ) where
   filters-read : (n at : ℕ) → ((i : ℕ) → i < n → getD s (at + filterBytes * i) 0 ≤ 1) → at + filterBytes * n ≤ length s
@@ -31,7 +32,7 @@ module _ (s : List ℕ) (filters : ℕ) where
       (filters-read n (at + filterBytes) (λ i h. subst (λ (j : ℕ). getD s j 0 ≤ 1) {x = at + filterBytes * suc i} {y = at + filterBytes + filterBytes * i} (omega arith) (kinds (suc i) (omega arith))) (omega arith)
       ∙ ap (framesAt s filters) {x = at + filterBytes + filterBytes * n} {y = at + filterBytes * suc n} (omega arith))
 
-pub good-read : (s : List ℕ) (filters frames : ℕ) → File s filters frames → readOf s ≡ gives (filters, 1, frames, framesStart filters)
+pub good-read : (s : List ℕ) (filters frames : ℕ) → File s filters frames → readOf s ≡ gives (sectionsWith filters frames (framesStart filters))
 unfolding readOf framesAt
 good-read s filters frames file =
     let long : length s ≡ framesStart filters + frameBytes * frames = file .whole in
@@ -48,21 +49,21 @@ good-read s filters frames file =
       start,
       ← file .frame-count,
     )
-    (frames-read (length s) (filters, 1, frames, framesStart filters) frames (framesStart filters) (sym long))
+    (frames-read (length s) (sectionsWith filters frames (framesStart filters)) frames (framesStart filters) (sym long))
 
 -- ---- what is read is a file
-frames-good : (len : ℕ) (found : Found) (n at : ℕ) (x : Found) → framesFrom len found n at ≡ gives x → at ≤ len → (at + frameBytes * n ≡ len) × (found ≡ x)
+frames-good : (len : ℕ) (sections : Sections) (n at : ℕ) (x : Sections) → framesFrom len sections n at ≡ gives x → at ≤ len → (at + frameBytes * n ≡ len) × (sections ≡ x)
 unfolding framesFrom
-frames-good len found zero at x h l =
-    let p = passed (ltb at len) 13 at (gives found) x h in
-    (omega (arith, ltb-false at len (p .0)), gives-same found x (p .1))
-frames-good len found (suc n) at x h l =
-    let p = passed (ltb len (at + frameBytes)) 11 at (framesFrom len found n (at + frameBytes)) x h in
-    let q = frames-good len found n (at + frameBytes) x (p .1) (ltb-false len (at + frameBytes) (p .0)) in
+frames-good len sections zero at x h l =
+    let p = passed (ltb at len) 13 at (gives sections) x h in
+    (omega (arith, ltb-false at len (p .0)), gives-same sections x (p .1))
+frames-good len sections (suc n) at x h l =
+    let p = passed (ltb len (at + frameBytes)) 11 at (framesFrom len sections n (at + frameBytes)) x h in
+    let q = frames-good len sections n (at + frameBytes) x (p .1) (ltb-false len (at + frameBytes) (p .0)) in
     (omega (arith, q .0), q .1)
 
 module _ (s : List ℕ) (filters : ℕ) where
-  filters-good : (n at : ℕ) (x : Found) → filtersFrom s filters n at ≡ gives x
+  filters-good : (n at : ℕ) (x : Sections) → filtersFrom s filters n at ≡ gives x
       → ((i : ℕ) → i < n → getD s (at + filterBytes * i) 0 ≤ 1) × (framesAt s filters (at + filterBytes * n) ≡ gives x)
   unfolding filtersFrom
   filters-good zero at x h =
@@ -81,18 +82,18 @@ module _ (s : List ℕ) (filters : ℕ) where
       each first later zero l = subst (λ (k : ℕ). getD s k 0 ≤ 1) {x = at} {y = at + filterBytes * 0} (omega arith) first
       each first later (suc i) l = subst (λ (k : ℕ). getD s k 0 ≤ 1) {x = at + filterBytes + filterBytes * i} {y = at + filterBytes * suc i} (omega arith) (later i (omega arith))
 
-pub read-good : (s : List ℕ) (filters filtersAt frames framesAt : ℕ) → readOf s ≡ gives (filters, filtersAt, frames, framesAt)
-    → File s filters frames × (filtersAt ≡ 1) × (framesAt ≡ framesStart filters)
+pub read-good : (s : List ℕ) (sections : Sections) → readOf s ≡ gives sections
+    → File s (sections .filters) (sections .frames) × (sections .«filters_start» ≡ 1) × (sections .«frames_start» ≡ framesStart (sections .filters))
 unfolding readOf framesAt
-read-good s a b c d h =
-    let there = passed (ltb (length s) (0 + 1)) 11 0 _ (a, b, c, d) h in
-    let few = passed (ltb filterLimit (getD s 0 0)) 12 0 _ (a, b, c, d) (there .1) in
-    let kinds = filters-good s (getD s 0 0) (getD s 0 0) 1 (a, b, c, d) (few .1) in
-    let count = passed (ltb (length s) (filtersEnd (getD s 0 0) + 2)) 11 (filtersEnd (getD s 0 0)) _ (a, b, c, d) (kinds .1) in
-    let some = passed (ltb frameLimit (countAt s (filtersEnd (getD s 0 0)))) 12 (filtersEnd (getD s 0 0)) _ (a, b, c, d) (count .1) in
-    let end = frames-good (length s) _ (countAt s (filtersEnd (getD s 0 0))) (filtersEnd (getD s 0 0) + 2) (a, b, c, d) (some .1) (ltb-false (length s) (filtersEnd (getD s 0 0) + 2) (count .0)) in
-    let ea : getD s 0 0 ≡ a = ap (λ (f : Found). f .0) (end .1) in
-    let ec : countAt s (filtersEnd (getD s 0 0)) ≡ c = ap (λ (f : Found). f .2) (end .1) in
+read-good s sections h =
+    let there = passed (ltb (length s) (0 + 1)) 11 0 _ sections h in
+    let few = passed (ltb filterLimit (getD s 0 0)) 12 0 _ sections (there .1) in
+    let kinds = filters-good s (getD s 0 0) (getD s 0 0) 1 sections (few .1) in
+    let count = passed (ltb (length s) (filtersEnd (getD s 0 0) + 2)) 11 (filtersEnd (getD s 0 0)) _ sections (kinds .1) in
+    let some = passed (ltb frameLimit (countAt s (filtersEnd (getD s 0 0)))) 12 (filtersEnd (getD s 0 0)) _ sections (count .1) in
+    let end = frames-good (length s) _ (countAt s (filtersEnd (getD s 0 0))) (filtersEnd (getD s 0 0) + 2) sections (some .1) (ltb-false (length s) (filtersEnd (getD s 0 0) + 2) (count .0)) in
+    let ea : getD s 0 0 ≡ sections .filters = ap (λ (x : Sections). x .filters) (end .1) in
+    let ec : countAt s (filtersEnd (getD s 0 0)) ≡ sections .frames = ap (λ (x : Sections). x .frames) (end .1) in
     let long : filtersEnd (getD s 0 0) + 2 + frameBytes * countAt s (filtersEnd (getD s 0 0)) ≡ length s = end .0 in (
       record {
         filter-count = sym ea;
@@ -102,6 +103,6 @@ read-good s a b c d h =
         frames-within = subst (λ (x : ℕ). x ≤ frameLimit) ec (ltb-false frameLimit (countAt s (filtersEnd (getD s 0 0))) (some .0));
         whole = omega arith;
       },
-      sym (ap (λ (f : Found). f .1) (end .1)),
-      sym (ap (λ (f : Found). f .3) (end .1)) ∙ omega arith,
+      sym (ap (λ (x : Sections). x .«filters_start») (end .1)),
+      sym (ap (λ (x : Sections). x .«frames_start») (end .1)) ∙ omega arith,
     )

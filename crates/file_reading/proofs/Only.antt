@@ -3,12 +3,13 @@ use mathlib.Core.Path.{_≡_, refl, ap}
 use Rattle.laws.specs.Said.{Said, refuses, gives}
 use Rattle.laws.proofs.Only.{only}
 use Rattle.refusals.proofs.Only.{refusalAt, refusal-at}
-use Rattle.file_reading.specs.Reader.{Found, readingSaid}
+use Rattle.file_reading.specs.declared.Sections.{Sections}
+use Rattle.file_reading.specs.Reader.{readingSaid}
 use Rattle.file_reading.specs.declared.Reading.{Reading}
 use Rattle.file_reading.specs.declared.Reading.the-variants as reading
 
-readingBack : Said Found → Reading
-readingBack (gives f) = reading.Read (record { filters = f .0; «filters_start» = f .1; frames = f .2; «frames_start» = f .3 })
+readingBack : Said Sections → Reading
+readingBack (gives sections) = reading.Read sections
 readingBack (refuses k n) = reading.Refused (refusalAt k n)
 
 reading-back : (r : Reading) → readingBack (readingSaid r) ≡ r

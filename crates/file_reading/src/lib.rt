@@ -2,7 +2,7 @@
 ghost use mathlib.Core.Path.{_≡_};
 ghost use Prim.Native.Nat.{_<_, _≤_};
 ghost use Rattle.file_reading.specs.Format.{filterLimit, frameLimit};
-ghost use Rattle.file_reading.specs.Reader.{framesFrom, framesAt, filtersFrom, readOf, readingSaid};
+ghost use Rattle.file_reading.specs.Reader.{sectionsWith, framesFrom, framesAt, filtersFrom, readOf, readingSaid};
 use refusals::Refusal;
 
 pub const FILTER_LIMIT: usize = 16;
@@ -36,7 +36,7 @@ fn wide(byte: u8) -> usize
 // The frames, and nothing after them.
 fn read_frames(len: usize, filters: usize, frames: usize, start: usize) -> Reading
     requires { ⌜ (frames ≤ frameLimit) × (start < 256) ⌝ }
-    ensures { λ r. ⌜ readingSaid r ≡ framesFrom len (filters, 1, frames, start) frames start ⌝ }
+    ensures { λ r. ⌜ readingSaid r ≡ framesFrom len (sectionsWith filters frames start) frames start ⌝ }
 {
     let mut left = frames;
     let mut at = start;

@@ -7,14 +7,15 @@ use lib.Seq.{take-all}
 use native.Mathlib.Omega.{arith}
 use native.Mathlib.Decide.{decLt}
 use Rattle.laws.specs.Said.{Said, refuses, gives}
-use Rattle.file_reading.specs.Reader.{Found, readOf}
+use Rattle.file_reading.specs.declared.Sections.{Sections}
+use Rattle.file_reading.specs.Reader.{readOf}
 use Rattle.file_reading.proofs.Format.{read-good}
 use Rattle.file_reading.proofs.Cap.{read-cap}
 use Rattle.file_report.specs.Text.{readText, textOf}
 
-refused-same : (s t : List ℕ) (said : Said Found) → readOf s ≡ said → 53396 < length s → readText t said ≡ readText s said
-refused-same s t (gives found) e h =
-    let file = read-good s (found .0) (found .1) (found .2) (found .3) e in
+refused-same : (s t : List ℕ) (said : Said Sections) → readOf s ≡ said → 53396 < length s → readText t said ≡ readText s said
+refused-same s t (gives sections) e h =
+    let file = read-good s sections e in
     absurd (omega (arith, file .0 .whole, file .0 .filters-within, file .0 .frames-within))
 refused-same s t (refuses number place) e h = refl
 

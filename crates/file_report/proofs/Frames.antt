@@ -9,8 +9,9 @@ use native.Mathlib.Omega.{arith}
 use Rattle.laws.specs.Said.{Said, gives}
 use Rattle.laws.specs.Laid.{laid, laidFirst, laying, written}
 use Rattle.laws.proofs.Laid.{set-then, laid-then}
-use Rattle.file_reading.specs.Format.{filterLimit, frameLimit, filterBytes, frameBytes, framesStart, File}
-use Rattle.file_reading.specs.Reader.{Found, readOf}
+use Rattle.file_reading.specs.Format.{filterLimit, frameLimit, filterBytes, frameBytes, framesStart}
+use Rattle.file_reading.specs.declared.Sections.{Sections}
+use Rattle.file_reading.specs.Reader.{readOf}
 use Rattle.file_reading.proofs.Format.{read-good}
 use Rattle.text.specs.Decimal.{decimal}
 use Rattle.text.proofs.Decimal.{decimal-long}
@@ -129,7 +130,7 @@ bad-put number place p q t e out one two three four room ep e1 eq e2 et e3 ee e4
     ∙ ap (λ (l : List ℕ). laid 0 l out) j
 
 -- ---- from what the reader answered
-pub text-is : (s : List ℕ) (said : Said Found) → readOf s ≡ said → textOf s ≡ readText s said
+pub text-is : (s : List ℕ) (said : Said Sections) → readOf s ≡ said → textOf s ≡ readText s said
 unfolding textOf
 text-is s said e = ap (readText s) e
 
@@ -137,9 +138,12 @@ pub same-text : (t u out now : List ℕ) (said : Said ℕ) → u ≡ t → (said
     → (said ≡ laying u out) × (now ≡ written (laying u out) u out)
 same-text t u out now said e p = rw e p
 
-pub sections : (s : List ℕ) (n first m second : ℕ) → readOf s ≡ gives (n, first, m, second)
-    → (n ≤ filterLimit) × (first + filterBytes * n ≤ length s) × (second + frameBytes * m ≤ length s) × (m ≤ frameLimit)
-sections s n first m second e =
-    let p : File s n m × (first ≡ 1) × (second ≡ framesStart n) = read-good s n first m second e in
-    let long : length s ≡ framesStart n + frameBytes * m = p .0 .whole in
+pub within : (s : List ℕ) (sections : Sections) → readOf s ≡ gives sections
+    → (sections .filters ≤ filterLimit)
+    × (sections .«filters_start» + filterBytes * sections .filters ≤ length s)
+    × (sections .«frames_start» + frameBytes * sections .frames ≤ length s)
+    × (sections .frames ≤ frameLimit)
+within s sections e =
+    let p = read-good s sections e in
+    let long : length s ≡ framesStart (sections .filters) + frameBytes * sections .frames = p .0 .whole in
     (p .0 .filters-within, omega (arith, p .1), omega (arith, p .2), p .0 .frames-within)

@@ -9,7 +9,8 @@ use Rattle.laws.specs.Said.{Said, refuses, gives}
 use Rattle.laws.specs.Tabulate.{part}
 use Rattle.text.specs.Decimal.{decimal}
 use Rattle.file_reading.specs.Format.{filterBytes, frameBytes}
-use Rattle.file_reading.specs.Reader.{Found, readOf}
+use Rattle.file_reading.specs.declared.Sections.{Sections}
+use Rattle.file_reading.specs.Reader.{readOf}
 use Rattle.filter_matcher.specs.Words.{matchOf}
 
 -- the filter at a place, a kind and its registers, accepts the frame at a place
@@ -65,8 +66,8 @@ goodText s n first m second = linesFrom s n first m 0 second ++ (acceptedText ++
 unfoldable pub badText : ℕ → ℕ → List ℕ
 badText number place = refusedText ++ (decimal number ++ (atText ++ (decimal place ++ (10 ∷ []))))
 
-abbrev pub readText : List ℕ → Said Found → List ℕ
-readText s (gives found) = goodText s (found .0) (found .1) (found .2) (found .3)
+abbrev pub readText : List ℕ → Said Sections → List ℕ
+readText s (gives sections) = goodText s (sections .filters) (sections .«filters_start») (sections .frames) (sections .«frames_start»)
 readText s (refuses number place) = badText number place
 
 unfoldable pub textOf : List ℕ → List ℕ

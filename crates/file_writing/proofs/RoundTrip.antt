@@ -15,7 +15,8 @@ use Rattle.laws.specs.Said.{gives}
 use Rattle.laws.specs.Laid.{written}
 use Rattle.laws.specs.Tabulate.{Bytes}
 use Rattle.file_reading.specs.Format.{filterLimit, frameLimit, filterBytes, frameBytes, filtersEnd, framesStart, countAt, File, filtersIn, framesIn}
-use Rattle.file_reading.specs.Reader.{readOf}
+use Rattle.file_reading.specs.declared.Sections.{Sections}
+use Rattle.file_reading.specs.Reader.{sectionsWith, readOf}
 use Rattle.file_reading.proofs.Format.{good-read, read-good}
 use Rattle.file_writing.specs.Writer.{filterCount, frameCount, framesPart, fileOf, firstBadKind, needed, writeOf, leaves}
 use Rattle.file_writing.proofs.Writer.{Whole, whole}
@@ -64,7 +65,7 @@ module _ (filters frames : List ℕ) where
 
   -- reading what was written
   pub read-written : (room n : ℕ) → writeOf filters frames room ≡ gives n
-      → (readOf (fileOf filters frames) ≡ gives (filterCount filters, 1, frameCount frames, framesStart (filterCount filters)))
+      → (readOf (fileOf filters frames) ≡ gives (sectionsWith (filterCount filters) (frameCount frames) (framesStart (filterCount filters))))
       × (filtersIn (fileOf filters frames) (filterCount filters) ≡ filters)
       × (framesIn (fileOf filters frames) (filterCount filters) (frameCount frames) ≡ frames)
   read-written room n h =
@@ -157,8 +158,9 @@ module _ (s : List ℕ) (n m : ℕ) (file : File s n m) where
       (ap gives (sym long))
 
 -- writing what was read gives the same bytes
-pub write-good : (s : List ℕ) (filters filtersAt frames framesAt room : ℕ) → readOf s ≡ gives (filters, filtersAt, frames, framesAt) → Bytes s → length s ≤ room
-    → (writeOf (filtersIn s filters) (framesIn s filters frames) room ≡ gives (length s)) × (fileOf (filtersIn s filters) (framesIn s filters frames) ≡ s)
-write-good s filters filtersAt frames framesAt room h bytes l =
-    let file : File s filters frames = read-good s filters filtersAt frames framesAt h .0 in
-    (good-write s filters frames file room l, same-bytes s filters frames file bytes)
+pub write-good : (s : List ℕ) (sections : Sections) (room : ℕ) → readOf s ≡ gives sections → Bytes s → length s ≤ room
+    → (writeOf (filtersIn s (sections .filters)) (framesIn s (sections .filters) (sections .frames)) room ≡ gives (length s))
+    × (fileOf (filtersIn s (sections .filters)) (framesIn s (sections .filters) (sections .frames)) ≡ s)
+write-good s sections room h bytes l =
+    let file : File s (sections .filters) (sections .frames) = read-good s sections h .0 in
+    (good-write s (sections .filters) (sections .frames) file room l, same-bytes s (sections .filters) (sections .frames) file bytes)

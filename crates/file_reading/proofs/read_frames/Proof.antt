@@ -3,7 +3,7 @@ use Prim.Native.Nat.{_≤_, _<_, _+_, _*_}
 use mathlib.Core.Path.{_≡_, refl}
 use native.Mathlib.Omega.{arith}
 use Rattle.file_reading.specs.Format.{frameLimit, frameBytes}
-use Rattle.file_reading.specs.Reader.{framesFrom}
+use Rattle.file_reading.specs.Reader.{sectionsWith, framesFrom}
 use Rattle.file_reading.proofs.Reader.{frames-turn, frames-cut, frames-over, frames-end}
 use Rattle.file_reading.proofs.read_frames.Statement.{statement}
 use Rattle.file_reading.proofs.read_frames.Tie as tie
@@ -12,7 +12,7 @@ abbrev Inv-loop : tie.InvT-loop
 Inv-loop len filters frames start left₀ at₀ left at =
     (left ≤ frameLimit)
     × (at + frameBytes * left < 60000)
-    × (framesFrom len (filters, 1, frames, start) left at ≡ framesFrom len (filters, 1, frames, start) frames start)
+    × (framesFrom len (sectionsWith filters frames start) left at ≡ framesFrom len (sectionsWith filters frames start) frames start)
 
 abbrev μ-loop : tie.MeasureT-loop
 μ-loop len filters frames start left₀ at₀ left at = left

@@ -3,7 +3,7 @@ use mathlib.Core.Path.{sym, ap, ap₂, _∙_}
 use borrow.Author.Needs.{needs}
 use Rattle.file_reading.specs.Reader.{readingSaid}
 use Rattle.file_report.specs.Text.{badText}
-use Rattle.file_report.proofs.Frames.{sections, text-is, same-text}
+use Rattle.file_report.proofs.Frames.{within, text-is, same-text}
 use Rattle.file_report.proofs.report.Statement.{statement}
 use Rattle.file_report.proofs.report.Tie as tie
 
@@ -14,7 +14,7 @@ enum-known-reading : tie.Need-enum-known-reading
 enum-known-reading c = search needs
 
 report-good-requires : tie.Need-report-good-requires
-report-good-requires c κs = sections (c .before .before .before .before .before .before .before .args .file .now) _ _ _ _ (sym (c .before .before .before .before .read-file .ensures) ∙ ap readingSaid (c .before .before .reading .given .1))
+report-good-requires c κs = within (c .before .before .before .before .before .before .before .args .file .now) _ (sym (c .before .before .before .before .read-file .ensures) ∙ ap readingSaid (c .before .before .reading .given .1))
 
 enum-known-reading-2 : tie.Need-enum-known-reading-2
 enum-known-reading-2 c = search needs
