@@ -3,3 +3,4 @@ pub mod Row
 pub mod Tabulate
 pub mod Bits
 pub mod Laid
+pub mod Ascii
