@@ -1,11 +1,11 @@
 -- The outline's whole case, by computation: its text has 19 characters; without its last byte the file is refused. Assumes nothing.
 use mathlib.Core.Path.{_≡_, refl}
-use mathlib.Core.List.{[], _∷_, _++_}
 use lib.ListN.{replicate, take}
+use Rattle.laws.specs.Ascii.{ascii}
 use Rattle.laws.specs.Laid.{laying}
 use Rattle.file_reading.specs.Reader.{framesFrom, framesAt, filtersFrom, readOf}
 use Rattle.text.specs.Decimal.{digitsOf, decimal}
-use Rattle.file_report.specs.Text.{badText, refusedText, atText, textOf}
+use Rattle.file_report.specs.Text.{badText, textOf}
 use Rattle.file_report.proofs.Cases.{wholeCase, whole-case}
 use Rattle.abi_answers.specs.Answers.{answerOf}
 
@@ -15,8 +15,7 @@ pub report-worked : (answerOf (laying (textOf wholeCase) (replicate 19 0)) ≡ r
 unfolding laying
 report-worked = (rw whole-case, rw whole-case)
 
--- "refused 11 at 25"
-pub cut-worked : (textOf (take 37 wholeCase) ≡ refusedText ++ (49 ∷ 49 ∷ (atText ++ (50 ∷ 53 ∷ 10 ∷ []))))
+pub cut-worked : (textOf (take 37 wholeCase) ≡ ascii "refused 11 at 25\n")
     × (answerOf (laying (textOf (take 37 wholeCase)) (replicate 17 0)) ≡ record { number = 0; value = 17 })
 unfolding framesFrom framesAt filtersFrom readOf digitsOf decimal badText textOf laying
 cut-worked = (refl, refl)

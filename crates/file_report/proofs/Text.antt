@@ -1,98 +1,118 @@
--- The text's parts grow at their ends: one mark, one line, one count more. Assumes nothing.
-use Prim.Native.Nat.{ℕ, zero, suc, _+_, _*_, _≤_}
+-- The text's parts grow at their ends: one mark, one line, one count more; and how long they are. Assumes nothing.
+use Prim.Native.Nat.{ℕ, zero, suc, _+_, _≤_}
 use mathlib.Core.Path.{_≡_, refl, sym, ap, ap₂, _∙_}
-use mathlib.Core.Bool.{Bool, true, false, cond}
+use mathlib.Core.Bool.{Bool, true, false, cond, _||_}
 use mathlib.Core.List.{List, [], _∷_, _++_, append-assoc, append-nil}
-use lib.Dec.{eqb}
 use lib.ListN.{length, length-append}
 use native.Mathlib.Omega.{arith}
-use Rattle.file_reading.specs.Format.{filterBytes, frameBytes}
-use Rattle.text.specs.Decimal.{decimal}
-use Rattle.file_report.specs.Text.{acceptsAt, marksFrom, anyFrom, marksOf, lineOf, linesFrom, countFrom}
+use borrow.Author.Tests.{eq-eqb, ne-eqb}
+use Rattle.laws.specs.Ascii.{ascii}
+use Rattle.laws.specs.Tabulate.{tabulate}
+use Rattle.laws.proofs.Tabulate.{tabulate-snoc, length-tabulate}
+use Rattle.file_report.specs.Text.{markOf, marks, marksOf, any, lineOf, linesFrom, countOf}
 use Rattle.file_report.specs.Length.{widthOf, lineLength, linesLength}
 
-module _ (s : List ℕ) (f : ℕ) where
-  pub marks-snoc : (i a : ℕ) → marksFrom s f (suc i) a ≡ marksFrom s f i a ++ (cond (acceptsAt s (a + filterBytes * i) f) 49 48 ∷ [])
-  unfolding marksFrom
-  marks-snoc zero a =
-      let e : a + filterBytes * 0 ≡ a = omega arith in
-      rw e
-  marks-snoc (suc i) a =
-      ap (λ (l : List ℕ). cond (acceptsAt s a f) 49 48 ∷ l)
-      (marks-snoc i (a + filterBytes) ∙ ap (λ (k : ℕ). marksFrom s f i (a + filterBytes) ++ (cond (acceptsAt s k f) 49 48 ∷ [])) {x = a + filterBytes + filterBytes * i} {y = a + filterBytes * suc i} (omega arith))
+-- ---- a row
+mark-long : (accepted : Bool) → length (markOf accepted) ≡ 1
+mark-long true = refl
+mark-long false = refl
 
-  pub marks-long : (n a : ℕ) → length (marksFrom s f n a) ≡ n
-  unfolding marksFrom
-  marks-long zero a = refl
-  marks-long (suc n) a = ap suc (marks-long n (a + filterBytes))
+pub marks-snoc : (row : List Bool) (last : Bool) → marks (row ++ (last ∷ [])) ≡ marks row ++ markOf last
+unfolding marks
+marks-snoc [] last = append-nil (markOf last)
+marks-snoc (first ∷ row) last = ap (λ (l : List ℕ). markOf first ++ l) (marks-snoc row last) ∙ sym (append-assoc (markOf first) (marks row) (markOf last))
 
-  swap : (x y z : Bool) → cond x true (cond y true z) ≡ cond y true (cond x true z)
-  swap true true z = refl
-  swap true false z = refl
-  swap false true z = refl
-  swap false false z = refl
+pub marks-long : (row : List Bool) → length (marks row) ≡ length row
+unfolding marks
+marks-long [] = refl
+marks-long (first ∷ row) = length-append (markOf first) (marks row) ∙ omega (arith, mark-long first, marks-long row)
 
-  pub any-snoc : (i a : ℕ) → anyFrom s f (suc i) a ≡ cond (acceptsAt s (a + filterBytes * i) f) true (anyFrom s f i a)
-  unfolding anyFrom
-  any-snoc zero a =
-      let e : a + filterBytes * 0 ≡ a = omega arith in
-      rw e
-  any-snoc (suc i) a =
-      ap (λ (b : Bool). cond (acceptsAt s a f) true b)
-      (any-snoc i (a + filterBytes) ∙ ap (λ (k : ℕ). cond (acceptsAt s k f) true (anyFrom s f i (a + filterBytes))) {x = a + filterBytes + filterBytes * i} {y = a + filterBytes * suc i} (omega arith))
-      ∙ swap (acceptsAt s a f) (acceptsAt s (a + filterBytes * suc i) f) (anyFrom s f i (a + filterBytes))
+swap : (x y z : Bool) → (x || (y || z)) ≡ (y || (x || z))
+swap true true z = refl
+swap true false z = refl
+swap false true z = refl
+swap false false z = refl
+
+pub any-snoc : (row : List Bool) (last : Bool) → any (row ++ (last ∷ [])) ≡ (last || any row)
+unfolding any
+any-snoc [] last = refl
+any-snoc (first ∷ row) last = ap (λ (b : Bool). first || b) (any-snoc row last) ∙ swap first last (any row)
+
+-- ---- a line
+pub width-none : (n : ℕ) → n ≡ 0 → widthOf n ≡ 1
+unfolding widthOf
+width-none n e = rw (eq-eqb n 0 e)
+
+pub width-some : (n : ℕ) → (n ≡ 0 → ⊥) → widthOf n ≡ n
+unfolding widthOf
+width-some n e = rw (ne-eqb n 0 e)
+
+pub marks-none : (row : List Bool) → length row ≡ 0 → marksOf row ≡ ascii "-"
+unfolding marksOf
+marks-none [] e = refl
+marks-none (first ∷ row) e = absurd (omega arith)
+
+pub marks-some : (row : List Bool) → (length row ≡ 0 → ⊥) → marksOf row ≡ marks row
+unfolding marksOf
+marks-some [] ne = absurd (ne refl)
+marks-some (first ∷ row) ne = refl
+
+width-long : (row : List Bool) → length (marksOf row) ≡ widthOf (length row)
+unfolding marksOf
+width-long [] = sym (width-none 0 refl)
+width-long (first ∷ row) = marks-long (first ∷ row) ∙ sym (width-some (suc (length row)) (λ e. omega arith))
+
+pub line-long : (index : ℕ) (row : List Bool) → length (lineOf index row) ≡ lineLength (length row) index
+unfolding lineOf
+line-long index row = simp length-append (omega (arith, width-long row))
 
 -- ---- lines and counts
-module _ (s : List ℕ) (n a : ℕ) where
-  pub lines-snoc : (m i f : ℕ) → linesFrom s n a (suc m) i f ≡ linesFrom s n a m i f ++ lineOf s n a (i + m) (f + frameBytes * m)
-  unfolding linesFrom
-  lines-snoc zero i f =
-      let e : i + 0 ≡ i = omega arith in
-      let g : f + frameBytes * 0 ≡ f = omega arith in
-      rw (e, g) (append-nil (lineOf s n a i f))
-  lines-snoc (suc m) i f =
-      ap (λ (l : List ℕ). lineOf s n a i f ++ l)
-      (lines-snoc m (i + 1) (f + frameBytes)
-      ∙ ap₂ (λ (x y : ℕ). linesFrom s n a m (i + 1) (f + frameBytes) ++ lineOf s n a x y) {x = i + 1 + m} {y = i + suc m} (omega arith) (omega arith))
-      ∙ sym (append-assoc (lineOf s n a i f) (linesFrom s n a m (i + 1) (f + frameBytes)) (lineOf s n a (i + suc m) (f + frameBytes * suc m)))
+lines-snoc : (index : ℕ) (rows : List (List Bool)) (last : List Bool) → linesFrom index (rows ++ (last ∷ [])) ≡ linesFrom index rows ++ lineOf (index + length rows) last
+unfolding linesFrom
+lines-snoc index [] last =
+    let e : index + 0 ≡ index = omega arith in
+    rw e (append-nil (lineOf index last))
+lines-snoc index (row ∷ rows) last =
+    let e : index + 1 + length rows ≡ index + suc (length rows) = omega arith in
+    ap (λ (l : List ℕ). lineOf index row ++ l) (lines-snoc (index + 1) rows last ∙ ap (λ (k : ℕ). linesFrom (index + 1) rows ++ lineOf k last) e)
+    ∙ sym (append-assoc (lineOf index row) (linesFrom (index + 1) rows) (lineOf (index + suc (length rows)) last))
 
-  pub count-snoc : (m f : ℕ) → countFrom s n a (suc m) f ≡ countFrom s n a m f + cond (anyFrom s (f + frameBytes * m) n a) 1 0
-  unfolding countFrom
-  count-snoc zero f =
-      let g : f + frameBytes * 0 ≡ f = omega arith in
-      rw g (omega arith)
-  count-snoc (suc m) f =
-      let g : f + frameBytes + frameBytes * m ≡ f + frameBytes * suc m = omega arith in
-      let r : countFrom s n a (suc m) (f + frameBytes) ≡ countFrom s n a m (f + frameBytes) + cond (anyFrom s (f + frameBytes * suc m) n a) 1 0 = rw (← g) (count-snoc m (f + frameBytes)) in
-      more (cond (anyFrom s f n a) 1 0) (countFrom s n a (suc m) (f + frameBytes)) (countFrom s n a m (f + frameBytes)) (cond (anyFrom s (f + frameBytes * suc m) n a) 1 0) r
-    where
-      more : (x y z w : ℕ) → y ≡ z + w → x + y ≡ x + z + w
-      more x y z w e = omega arith
+count-snoc : (rows : List (List Bool)) (last : List Bool) → countOf (rows ++ (last ∷ [])) ≡ countOf rows + cond (any last) 1 0
+unfolding countOf
+count-snoc [] last = omega arith
+count-snoc (row ∷ rows) last = more (cond (any row) 1 0) (countOf (rows ++ (last ∷ []))) (countOf rows) (cond (any last) 1 0) (count-snoc rows last)
+  where
+    more : (x y z w : ℕ) → y ≡ z + w → x + y ≡ x + z + w
+    more x y z w e = omega arith
 
-  pub line-long : (i f : ℕ) → length (lineOf s n a i f) ≡ lineLength n i
-  unfolding lineOf marksOf widthOf
-  line-long i f = by (eqb n 0)
-    where
-      by : (b : Bool) → length (decimal i ++ (32 ∷ (cond b (45 ∷ []) (marksFrom s f n a) ++ (10 ∷ [])))) ≡ length (decimal i) + 2 + cond b 1 n
-      by true = simp length-append (omega arith)
-      by false = simp length-append (omega (arith, marks-long s f n a))
+count-le : (rows : List (List Bool)) → countOf rows ≤ length rows
+unfolding countOf
+count-le [] = omega arith
+count-le (row ∷ rows) = by (any row) (count-le rows)
+  where
+    by : (some : Bool) → countOf rows ≤ length rows → cond some 1 0 + countOf rows ≤ suc (length rows)
+    by true h = omega arith
+    by false h = omega arith
 
-  pub lines-long : (m f : ℕ) → length (linesFrom s n a m 0 f) ≡ linesLength n m
+-- rows by their index, each of n verdicts
+module _ (n : ℕ) (row : ℕ → List Bool) (wide : (i : ℕ) → length (row i) ≡ n) where
+  pub lines-more : (m : ℕ) → linesFrom 0 (tabulate (suc m) row) ≡ linesFrom 0 (tabulate m row) ++ lineOf m (row m)
+  lines-more m =
+      let e : 0 + length (tabulate m row) ≡ m = omega (arith, length-tabulate m row) in
+      ap (linesFrom 0) (tabulate-snoc m row) ∙ lines-snoc 0 (tabulate m row) (row m) ∙ ap (λ (k : ℕ). linesFrom 0 (tabulate m row) ++ lineOf k (row m)) e
+
+  pub count-more : (m : ℕ) → countOf (tabulate (suc m) row) ≡ countOf (tabulate m row) + cond (any (row m)) 1 0
+  count-more m = ap countOf (tabulate-snoc m row) ∙ count-snoc (tabulate m row) (row m)
+
+  pub count-most : (m : ℕ) → countOf (tabulate m row) ≤ m
+  count-most m = omega (arith, count-le (tabulate m row), length-tabulate m row)
+
+  pub lines-long : (m : ℕ) → length (linesFrom 0 (tabulate m row)) ≡ linesLength n m
   unfolding linesLength linesFrom
-  lines-long zero f = refl
-  lines-long (suc m) f =
-      let e : 0 + m ≡ m = omega arith in
-      ap length (lines-snoc m 0 f) ∙ length-append (linesFrom s n a m 0 f) (lineOf s n a (0 + m) (f + frameBytes * m))
-      ∙ ap₂ (λ (x y : ℕ). x + y) (lines-long m f) (line-long (0 + m) (f + frameBytes * m) ∙ ap (λ (k : ℕ). lineLength n k) e)
-
-  pub count-le : (m f : ℕ) → countFrom s n a m f ≤ m
-  unfolding countFrom
-  count-le zero f = omega arith
-  count-le (suc m) f = by (anyFrom s f n a) (count-le m (f + frameBytes))
-    where
-      by : (b : Bool) → countFrom s n a m (f + frameBytes) ≤ m → cond b 1 0 + countFrom s n a m (f + frameBytes) ≤ suc m
-      by true h = omega arith
-      by false h = omega arith
+  lines-long zero = refl
+  lines-long (suc m) =
+      ap length (lines-more m) ∙ length-append (linesFrom 0 (tabulate m row)) (lineOf m (row m))
+      ∙ ap₂ (λ (x y : ℕ). x + y) (lines-long m) (line-long m (row m) ∙ ap (λ (k : ℕ). lineLength k m) (wide m))
 
 pub long-more : (n i k : ℕ) → linesLength n i ≤ linesLength n (i + k)
 unfolding linesLength

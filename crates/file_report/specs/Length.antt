@@ -1,5 +1,5 @@
--- How long the lines are, whatever the verdicts.
--- Source: the outline, "Frame file and program".
+-- How long the lines are, whatever the verdicts, by how many filters and frames there are. No promise of a public function cites these
+-- forms: proofs/Text shows that they are the lengths of the text's.
 use Prim.Native.Nat.{ℕ, zero, suc, _+_}
 use mathlib.Core.Bool.{cond}
 use lib.Dec.{eqb}

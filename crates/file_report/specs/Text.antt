@@ -1,73 +1,83 @@
--- The text that the program prints for a file, from the verdicts of the matcher; each number below is a character.
+-- The text that the program prints for a file: its filters and its frames, each filter's verdict on each frame, and the lines.
 -- Source: the outline, "Frame file and program".
-use Prim.Native.Nat.{ℕ, zero, suc, _+_}
-use mathlib.Core.Bool.{Bool, true, false, cond}
-use mathlib.Core.List.{List, [], _∷_, _++_}
-use lib.Dec.{eqb}
+use Prim.Native.Nat.{ℕ, _+_, _*_}
+use mathlib.Core.Bool.{Bool, false, cond, _||_}
+use mathlib.Core.List.{List, [], _∷_, _++_, map}
 use lib.ListN.{getD}
+use Rattle.laws.specs.Ascii.{ascii}
 use Rattle.laws.specs.Said.{Said, refuses, gives}
-use Rattle.laws.specs.Tabulate.{part}
+use Rattle.laws.specs.Tabulate.{tabulate, part}
 use Rattle.text.specs.Decimal.{decimal}
 use Rattle.file_reading.specs.Format.{filterBytes, frameBytes}
 use Rattle.file_reading.specs.declared.Sections.{Sections}
 use Rattle.file_reading.specs.Reader.{readOf}
 use Rattle.filter_matcher.specs.Words.{matchOf}
 
--- the filter at a place, a kind and its registers, accepts the frame at a place
+pub record Filter : Type 0 where
+  pub kind : ℕ
+  pub registers : List ℕ
+
+-- what a file's sections hold: the filters, and the frames
+abbrev pub filterAt : List ℕ → ℕ → Filter
+filterAt s at = record { kind = getD s at 0; registers = part s (at + 1) 8 }
+
+abbrev pub filtersOf : List ℕ → Sections → List Filter
+filtersOf s sections = tabulate (sections .filters) (λ i. filterAt s (sections .«filters_start» + filterBytes * i))
+
+abbrev pub framesOf : List ℕ → Sections → List (List ℕ)
+framesOf s sections = tabulate (sections .frames) (λ i. part s (sections .«frames_start» + frameBytes * i) frameBytes)
+
+-- a filter accepts a frame; no filter of a file that is read is refused (proofs/Given)
 abbrev pub verdict : Said Bool → Bool
 verdict (gives accepted) = accepted
 verdict (refuses number carried) = false
 
-unfoldable pub acceptsAt : List ℕ → ℕ → ℕ → Bool
-acceptsAt s filter frame = verdict (matchOf (getD s filter 0) (part s (filter + 1) 8) (part s frame frameBytes))
+abbrev pub accepts : List ℕ → Filter → Bool
+accepts frame filter = verdict (matchOf (filter .kind) (filter .registers) frame)
 
--- `1` or `0` for each of n filters from a place on
-unfoldable pub marksFrom : List ℕ → ℕ → ℕ → ℕ → List ℕ
-marksFrom s frame zero filter = []
-marksFrom s frame (suc n) filter = cond (acceptsAt s filter frame) 49 48 ∷ marksFrom s frame n (filter + filterBytes)
+-- for each frame a row, in it each filter's verdict
+abbrev pub rowsOf : List Filter → List (List ℕ) → List (List Bool)
+rowsOf filters frames = map (λ frame. map (accepts frame) filters) frames
 
--- some of n filters from a place on accepts the frame
-unfoldable pub anyFrom : List ℕ → ℕ → ℕ → ℕ → Bool
-anyFrom s frame zero filter = false
-anyFrom s frame (suc n) filter = cond (acceptsAt s filter frame) true (anyFrom s frame n (filter + filterBytes))
+-- `1` or `0` for each filter, or `-` if there are none
+abbrev pub markOf : Bool → List ℕ
+markOf accepted = cond accepted (ascii "1") (ascii "0")
 
--- the marks, or `-` if there are no filters
-unfoldable pub marksOf : List ℕ → ℕ → ℕ → ℕ → List ℕ
-marksOf s frame n first = cond (eqb n 0) (45 ∷ []) (marksFrom s frame n first)
+unfoldable pub marks : List Bool → List ℕ
+marks [] = []
+marks (accepted ∷ row) = markOf accepted ++ marks row
+
+unfoldable pub marksOf : List Bool → List ℕ
+marksOf [] = ascii "-"
+marksOf (accepted ∷ row) = marks (accepted ∷ row)
 
 -- a frame's line: its index, a space, its marks
-unfoldable pub lineOf : List ℕ → ℕ → ℕ → ℕ → ℕ → List ℕ
-lineOf s n first index frame = decimal index ++ (32 ∷ (marksOf s frame n first ++ (10 ∷ [])))
+unfoldable pub lineOf : ℕ → List Bool → List ℕ
+lineOf index row = decimal index ++ (ascii " " ++ (marksOf row ++ ascii "\n"))
 
--- the lines of m frames, from an index and a place on
-unfoldable pub linesFrom : List ℕ → ℕ → ℕ → ℕ → ℕ → ℕ → List ℕ
-linesFrom s n first zero index frame = []
-linesFrom s n first (suc m) index frame = lineOf s n first index frame ++ linesFrom s n first m (index + 1) (frame + frameBytes)
+-- the lines of the frames, from an index on
+unfoldable pub linesFrom : ℕ → List (List Bool) → List ℕ
+linesFrom index [] = []
+linesFrom index (row ∷ rows) = lineOf index row ++ linesFrom (index + 1) rows
 
--- how many of m frames from a place on some filter accepts
-unfoldable pub countFrom : List ℕ → ℕ → ℕ → ℕ → ℕ → ℕ
-countFrom s n first zero frame = 0
-countFrom s n first (suc m) frame = cond (anyFrom s frame n first) 1 0 + countFrom s n first m (frame + frameBytes)
+-- some filter accepts the frame, and how many such frames there are
+unfoldable pub any : List Bool → Bool
+any [] = false
+any (accepted ∷ row) = accepted || any row
 
--- "accepted ", "refused ", " at "
-abbrev pub acceptedText : List ℕ
-acceptedText = 97 ∷ 99 ∷ 99 ∷ 101 ∷ 112 ∷ 116 ∷ 101 ∷ 100 ∷ 32 ∷ []
+unfoldable pub countOf : List (List Bool) → ℕ
+countOf [] = 0
+countOf (row ∷ rows) = cond (any row) 1 0 + countOf rows
 
-abbrev pub refusedText : List ℕ
-refusedText = 114 ∷ 101 ∷ 102 ∷ 117 ∷ 115 ∷ 101 ∷ 100 ∷ 32 ∷ []
+unfoldable pub goodText : List (List Bool) → List ℕ
+goodText rows = linesFrom 0 rows ++ (ascii "accepted " ++ (decimal (countOf rows) ++ ascii "\n"))
 
-abbrev pub atText : List ℕ
-atText = 32 ∷ 97 ∷ 116 ∷ 32 ∷ []
-
--- n filters from `first` on, m frames from `second` on
-unfoldable pub goodText : List ℕ → ℕ → ℕ → ℕ → ℕ → List ℕ
-goodText s n first m second = linesFrom s n first m 0 second ++ (acceptedText ++ (decimal (countFrom s n first m second) ++ (10 ∷ [])))
-
+-- a refusal's number, and the one number that it carries
 unfoldable pub badText : ℕ → ℕ → List ℕ
-badText number place = refusedText ++ (decimal number ++ (atText ++ (decimal place ++ (10 ∷ []))))
+badText number place = ascii "refused " ++ (decimal number ++ (ascii " at " ++ (decimal place ++ ascii "\n")))
 
 abbrev pub readText : List ℕ → Said Sections → List ℕ
-readText s (gives sections) = goodText s (sections .filters) (sections .«filters_start») (sections .frames) (sections .«frames_start»)
+readText s (gives sections) = goodText (rowsOf (filtersOf s sections) (framesOf s sections))
 readText s (refuses number place) = badText number place
 
 unfoldable pub textOf : List ℕ → List ℕ

@@ -1,32 +1,61 @@
 // The report on a frame file: the text that the program prints for it, in a lent output.
-// In all functions `first` is where the filters start, `second` where the frames do.
 ghost use mathlib.Core.Path.{_≡_};
-ghost use mathlib.Core.Bool.{cond, true, false};
-ghost use Prim.Native.Nat.{_+_, _*_, _^_, _<_, _≤_};
-ghost use lib.ListN.{length, getD};
-ghost use Rattle.laws.specs.Row.{bytes, pack};
+ghost use mathlib.Core.Bool.{cond, _||_};
+ghost use mathlib.Core.List.{_∷_, []};
+ghost use Prim.Native.Nat.{_+_, _*_, _<_, _≤_};
+ghost use lib.ListN.{length};
 ghost use Rattle.laws.specs.Tabulate.{part};
 ghost use Rattle.laws.specs.Laid.{laidFirst, laid, laying, written};
 ghost use Rattle.text.specs.Laying.{layingSaid};
-ghost use Rattle.filter_registers.specs.Registers.{codeIn, maskIn};
 ghost use Rattle.file_reading.specs.Format.{filterLimit, frameLimit, filterBytes, frameBytes};
 ghost use Rattle.filter_matcher.specs.Shown.{showOf};
 ghost use Rattle.filter_matcher.specs.Words.{compareOf, matchingSaid};
-ghost use Rattle.file_report.specs.Text.{verdict, marksFrom, anyFrom, lineOf, linesFrom, countFrom, goodText, badText, textOf};
+ghost use Rattle.file_report.specs.Text.{verdict, markOf, marks, any, lineOf, linesFrom, countOf, goodText, badText, textOf};
 ghost use Rattle.file_report.specs.Length.{lineLength, linesLength, widthOf};
+ghost use Rattle.file_report.specs.Held.{Holds, verdictsBy, rowsBy};
 use file_reading::FILTER_BYTES;
+use file_reading::FILTER_LIMIT;
 use file_reading::FRAME_BYTES;
 use file_reading::Reading;
+use file_reading::Sections;
 use filter_matcher::Matching;
 use filter_matcher::shown::Shown;
 use refusals::Refusal;
 use text::Laying;
 
-fn word_at(file: &[u8], at: usize) -> u32
-    requires { ⌜ at + 4 ≤ length (now file) ⌝ }
-    ensures { λ r. ⌜ (r ≡ pack (bytes 4) (part (now (file .entry)) at 4)) × (r < 2 ^ 32) ⌝ }
+// How many filters there are, and of each its kind and the two words of its registers.
+struct Filters {
+    count: usize,
+    kinds: [u8; FILTER_LIMIT],
+    codes: [u32; FILTER_LIMIT],
+    masks: [u32; FILTER_LIMIT],
+}
+
+fn read_filters(file: &[u8], sections: Sections) -> Filters
+    requires { ⌜ (sections .filters ≤ filterLimit)
+        × (sections .«filters_start» + filterBytes * sections .filters ≤ length (now file)) ⌝ }
+    ensures { λ r. ⌜ Holds (now (file .entry)) sections r ⌝ }
 {
-    octets::word(file[at], file[at + 1], file[at + 2], file[at + 3])
+    let count = sections.filters;
+    let mut kinds = [0u8; FILTER_LIMIT];
+    let mut codes = [0u32; FILTER_LIMIT];
+    let mut masks = [0u32; FILTER_LIMIT];
+    let mut at = sections.filters_start;
+    let mut i: usize = 0;
+    while i < count {
+        let registers = at + 1;
+        kinds[i] = file[at];
+        codes[i] = octets::word_at(file, registers);
+        masks[i] = octets::word_at(file, registers + 4);
+        at += FILTER_BYTES;
+        i += 1;
+    }
+    Filters {
+        count,
+        kinds,
+        codes,
+        masks,
+    }
 }
 
 fn shown_at(file: &[u8], at: usize) -> Shown
@@ -47,56 +76,45 @@ fn is_accepted(matching: Matching) -> bool
     }
 }
 
-// Whether the filter at a place accepts what a frame shows.
-fn accepts_at(file: &[u8], at: usize, shown: Shown) -> bool
-    requires { ⌜ at + filterBytes ≤ length (now file) ⌝ }
-    ensures { λ r. ⌜ (r ≡ verdict (compareOf (getD (now (file .entry)) at 0) (codeIn (part (now (file .entry)) (at + 1) 8)) (maskIn (part (now (file .entry)) (at + 1) 8)) shown))
-        × (codeIn (part (now (file .entry)) (at + 1) 8) < 2 ^ 32)
-        × (maskIn (part (now (file .entry)) (at + 1) 8) < 2 ^ 32) ⌝ }
+// Whether a filter accepts what a frame shows.
+fn accepts(kind: u8, code: u32, mask: u32, shown: Shown) -> bool
+    ensures { λ r. ⌜ r ≡ verdict (compareOf kind code mask shown) ⌝ }
 {
-    let registers = at + 1;
-    let code = word_at(file, registers);
-    let mask = word_at(file, registers + 4);
-    is_accepted(filter_matcher::compare(file[at], code, mask, shown))
+    is_accepted(filter_matcher::compare(kind, code, mask, shown))
 }
 
 fn mark(accepted: bool) -> u8
-    ensures { λ r. ⌜ r ≡ cond accepted 49 48 ⌝ }
+    ensures { λ r. ⌜ r ∷ [] ≡ markOf accepted ⌝ }
 {
-    if accepted { 49 } else { 48 }
+    if accepted { b'1' } else { b'0' }
 }
 
 fn either(accepted: bool, any: bool) -> bool
-    ensures { λ r. ⌜ r ≡ cond accepted true any ⌝ }
+    ensures { λ r. ⌜ r ≡ (accepted || any) ⌝ }
 {
     if accepted { true } else { any }
 }
 
-// A mark for each filter, for the frame at a place; and whether some filter accepts it.
+// A mark for each filter, for what a frame shows; and whether some filter accepts it.
 fn put_marks(
-    file: &[u8],
     filters: usize,
-    first: usize,
-    frame: usize,
+    kinds: &[u8; FILTER_LIMIT],
+    codes: &[u32; FILTER_LIMIT],
+    masks: &[u32; FILTER_LIMIT],
+    shown: Shown,
     out: &mut [u8],
     at: usize,
 ) -> bool
-    requires { ⌜ (filters ≤ filterLimit)
-        × (first + filterBytes * filters ≤ length (now file))
-        × (frame + frameBytes ≤ length (now file))
-        × (at + filters ≤ length (now out)) ⌝ }
-    ensures { λ r. ⌜ (r ≡ anyFrom (now (file .entry)) frame filters first)
-        × (now (out .exit) ≡ laid at (marksFrom (now (file .entry)) frame filters first) (now (out .entry))) ⌝ }
+    requires { ⌜ (filters ≤ filterLimit) × (at + filters ≤ length (now out)) ⌝ }
+    ensures { λ r. ⌜ (r ≡ any (verdictsBy filters (now (kinds .entry)) (now (codes .entry)) (now (masks .entry)) shown))
+        × (now (out .exit) ≡ laid at (marks (verdictsBy filters (now (kinds .entry)) (now (codes .entry)) (now (masks .entry)) shown)) (now (out .entry))) ⌝ }
 {
-    let shown = shown_at(file, frame);
     let mut any = false;
     let mut i: usize = 0;
-    let mut filter = first;
     while i < filters {
-        let accepted = accepts_at(file, filter, shown);
+        let accepted = accepts(kinds[i], codes[i], masks[i], shown);
         out[at + i] = mark(accepted);
         any = either(accepted, any);
-        filter += FILTER_BYTES;
         i += 1;
     }
     any
@@ -109,36 +127,34 @@ struct Line {
 }
 
 fn put_line(
-    file: &[u8],
     filters: usize,
-    first: usize,
+    kinds: &[u8; FILTER_LIMIT],
+    codes: &[u32; FILTER_LIMIT],
+    masks: &[u32; FILTER_LIMIT],
+    shown: Shown,
     index: usize,
-    frame: usize,
     out: &mut [u8],
     at: usize,
 ) -> Line
-    requires { ⌜ (filters ≤ filterLimit)
-        × (first + filterBytes * filters ≤ length (now file))
-        × (frame + frameBytes ≤ length (now file))
-        × (at + lineLength filters index ≤ length (now out)) ⌝ }
+    requires { ⌜ (filters ≤ filterLimit) × (at + lineLength filters index ≤ length (now out)) ⌝ }
     ensures { λ r. ⌜ (r .end ≡ at + lineLength filters index)
-        × (r .any ≡ anyFrom (now (file .entry)) frame filters first)
-        × (now (out .exit) ≡ laid at (lineOf (now (file .entry)) filters first index frame) (now (out .entry))) ⌝ }
+        × (r .any ≡ any (verdictsBy filters (now (kinds .entry)) (now (codes .entry)) (now (masks .entry)) shown))
+        × (now (out .exit) ≡ laid at (lineOf index (verdictsBy filters (now (kinds .entry)) (now (codes .entry)) (now (masks .entry)) shown)) (now (out .entry))) ⌝ }
 {
     let space = text::put_decimal(out, at, index);
-    out[space] = 32;
+    out[space] = b' ';
     let marks = space + 1;
     if filters == 0 {
-        out[marks] = 45;
-        out[marks + 1] = 10;
+        out[marks] = b'-';
+        out[marks + 1] = b'\n';
         return Line {
             end: marks + 2,
             any: false,
         };
     }
-    let any = put_marks(file, filters, first, frame, out, marks);
+    let any = put_marks(filters, kinds, codes, masks, shown, out, marks);
     let newline = marks + filters;
-    out[newline] = 10;
+    out[newline] = b'\n';
     Line {
         end: newline + 1,
         any,
@@ -158,29 +174,25 @@ fn counted(count: usize, any: bool) -> usize
     if any { count + 1 } else { count }
 }
 
-fn put_lines(
-    file: &[u8],
-    filters: usize,
-    first: usize,
-    frames: usize,
-    second: usize,
-    out: &mut [u8],
-) -> Lines
-    requires { ⌜ (filters ≤ filterLimit)
-        × (first + filterBytes * filters ≤ length (now file))
-        × (second + frameBytes * frames ≤ length (now file))
-        × (frames ≤ frameLimit)
-        × (linesLength filters frames ≤ length (now out)) ⌝ }
-    ensures { λ r. ⌜ (r .end ≡ linesLength filters frames)
-        × (r .count ≡ countFrom (now (file .entry)) filters first frames second)
-        × (now (out .exit) ≡ laid 0 (linesFrom (now (file .entry)) filters first frames 0 second) (now (out .entry))) ⌝ }
+fn put_lines(file: &[u8], filters: Filters, sections: Sections, out: &mut [u8]) -> Lines
+    requires { ⌜ (filters .count ≤ filterLimit)
+        × (sections .«frames_start» + frameBytes * sections .frames ≤ length (now file))
+        × (sections .frames ≤ frameLimit)
+        × (linesLength (filters .count) (sections .frames) ≤ length (now out)) ⌝ }
+    ensures { λ r. ⌜ (r .end ≡ linesLength (filters .count) (sections .frames))
+        × (r .count ≡ countOf (rowsBy (now (file .entry)) filters sections))
+        × (now (out .exit) ≡ laid 0 (linesFrom 0 (rowsBy (now (file .entry)) filters sections)) (now (out .entry))) ⌝ }
 {
+    let kinds = filters.kinds;
+    let codes = filters.codes;
+    let masks = filters.masks;
     let mut at: usize = 0;
     let mut count: usize = 0;
     let mut i: usize = 0;
-    let mut frame = second;
-    while i < frames {
-        let line = put_line(file, filters, first, i, frame, out, at);
+    let mut frame = sections.frames_start;
+    while i < sections.frames {
+        let shown = shown_at(file, frame);
+        let line = put_line(filters.count, &kinds, &codes, &masks, shown, i, out, at);
         at = line.end;
         count = counted(count, line.any);
         frame += FRAME_BYTES;
@@ -213,39 +225,46 @@ fn lines_length(filters: usize, frames: usize) -> usize
     length
 }
 
-// Whether some filter accepts the frame at a place.
-fn any_at(file: &[u8], filters: usize, first: usize, frame: usize) -> bool
-    requires { ⌜ (filters ≤ filterLimit)
-        × (first + filterBytes * filters ≤ length (now file))
-        × (frame + frameBytes ≤ length (now file)) ⌝ }
-    ensures { λ r. ⌜ r ≡ anyFrom (now (file .entry)) frame filters first ⌝ }
+// Whether some filter accepts what a frame shows.
+fn any_accepts(
+    filters: usize,
+    kinds: &[u8; FILTER_LIMIT],
+    codes: &[u32; FILTER_LIMIT],
+    masks: &[u32; FILTER_LIMIT],
+    shown: Shown,
+) -> bool
+    requires { ⌜ filters ≤ filterLimit ⌝ }
+    ensures { λ r. ⌜ r ≡ any (verdictsBy filters (now (kinds .entry)) (now (codes .entry)) (now (masks .entry)) shown) ⌝ }
 {
-    let shown = shown_at(file, frame);
-    let mut left = filters;
-    let mut filter = first;
-    while left > 0 {
-        if accepts_at(file, filter, shown) {
+    let mut i: usize = 0;
+    while i < filters {
+        if accepts(kinds[i], codes[i], masks[i], shown) {
             return true;
         }
-        filter += FILTER_BYTES;
-        left -= 1;
+        i += 1;
     }
     false
 }
 
 // How many frames some filter accepts.
-fn accepted(file: &[u8], filters: usize, first: usize, frames: usize, second: usize) -> usize
-    requires { ⌜ (filters ≤ filterLimit)
-        × (first + filterBytes * filters ≤ length (now file))
-        × (second + frameBytes * frames ≤ length (now file))
-        × (frames ≤ frameLimit) ⌝ }
-    ensures { λ r. ⌜ r ≡ countFrom (now (file .entry)) filters first frames second ⌝ }
+fn accepted(file: &[u8], filters: Filters, sections: Sections) -> usize
+    requires { ⌜ (filters .count ≤ filterLimit)
+        × (sections .«frames_start» + frameBytes * sections .frames ≤ length (now file))
+        × (sections .frames ≤ frameLimit) ⌝ }
+    ensures { λ r. ⌜ r ≡ countOf (rowsBy (now (file .entry)) filters sections) ⌝ }
 {
+    let kinds = filters.kinds;
+    let codes = filters.codes;
+    let masks = filters.masks;
     let mut count: usize = 0;
     let mut i: usize = 0;
-    let mut frame = second;
-    while i < frames {
-        count = counted(count, any_at(file, filters, first, frame));
+    let mut frame = sections.frames_start;
+    while i < sections.frames {
+        let shown = shown_at(file, frame);
+        count = counted(
+            count,
+            any_accepts(filters.count, &kinds, &codes, &masks, shown),
+        );
         frame += FRAME_BYTES;
         i += 1;
     }
@@ -253,55 +272,39 @@ fn accepted(file: &[u8], filters: usize, first: usize, frames: usize, second: us
 }
 
 // The whole text of a file that is read, and its length.
-fn put_good(
-    file: &[u8],
-    filters: usize,
-    first: usize,
-    frames: usize,
-    second: usize,
-    out: &mut [u8],
-) -> usize
-    requires { ⌜ (filters ≤ filterLimit)
-        × (first + filterBytes * filters ≤ length (now file))
-        × (second + frameBytes * frames ≤ length (now file))
-        × (frames ≤ frameLimit)
-        × (length (goodText (now file) filters first frames second) ≤ length (now out)) ⌝ }
-    ensures { λ r. ⌜ (r ≡ length (goodText (now (file .entry)) filters first frames second))
-        × (now (out .exit) ≡ laidFirst (goodText (now (file .entry)) filters first frames second) (now (out .entry))) ⌝ }
+fn put_good(file: &[u8], filters: Filters, sections: Sections, out: &mut [u8]) -> usize
+    requires { ⌜ (filters .count ≤ filterLimit)
+        × (sections .«frames_start» + frameBytes * sections .frames ≤ length (now file))
+        × (sections .frames ≤ frameLimit)
+        × (length (goodText (rowsBy (now file) filters sections)) ≤ length (now out)) ⌝ }
+    ensures { λ r. ⌜ (r ≡ length (goodText (rowsBy (now (file .entry)) filters sections)))
+        × (now (out .exit) ≡ laidFirst (goodText (rowsBy (now (file .entry)) filters sections)) (now (out .entry))) ⌝ }
 {
-    let lines = put_lines(file, filters, first, frames, second, out);
+    let lines = put_lines(file, filters, sections, out);
     let number = text::put_text(out, lines.end, b"accepted ");
     let newline = text::put_decimal(out, number, lines.count);
-    out[newline] = 10;
+    out[newline] = b'\n';
     newline + 1
 }
 
 // Where there is room for any count of frames, they are matched once.
-fn report_good(
-    file: &[u8],
-    filters: usize,
-    first: usize,
-    frames: usize,
-    second: usize,
-    out: &mut [u8],
-) -> Laying
-    requires { ⌜ (filters ≤ filterLimit)
-        × (first + filterBytes * filters ≤ length (now file))
-        × (second + frameBytes * frames ≤ length (now file))
-        × (frames ≤ frameLimit) ⌝ }
-    ensures { λ r. ⌜ (layingSaid r ≡ laying (goodText (now (file .entry)) filters first frames second) (now (out .entry)))
-        × (now (out .exit) ≡ written (laying (goodText (now (file .entry)) filters first frames second) (now (out .entry))) (goodText (now (file .entry)) filters first frames second) (now (out .entry))) ⌝ }
+fn report_good(file: &[u8], filters: Filters, sections: Sections, out: &mut [u8]) -> Laying
+    requires { ⌜ (filters .count ≤ filterLimit)
+        × (sections .«frames_start» + frameBytes * sections .frames ≤ length (now file))
+        × (sections .frames ≤ frameLimit) ⌝ }
+    ensures { λ r. ⌜ (layingSaid r ≡ laying (goodText (rowsBy (now (file .entry)) filters sections)) (now (out .entry)))
+        × (now (out .exit) ≡ written (laying (goodText (rowsBy (now (file .entry)) filters sections)) (now (out .entry))) (goodText (rowsBy (now (file .entry)) filters sections)) (now (out .entry))) ⌝ }
 {
-    let lines = lines_length(filters, frames);
+    let lines = lines_length(filters.count, sections.frames);
     if lines + 14 <= out.len() {
-        return Laying::Laid(put_good(file, filters, first, frames, second, out));
+        return Laying::Laid(put_good(file, filters, sections, out));
     }
-    let count = accepted(file, filters, first, frames, second);
+    let count = accepted(file, filters, sections);
     let needed = lines + (9 + (text::digits(count) + 1));
     if out.len() < needed {
         return Laying::Refused(Refusal::OutputTooShort(needed));
     }
-    Laying::Laid(put_good(file, filters, first, frames, second, out))
+    Laying::Laid(put_good(file, filters, sections, out))
 }
 
 fn report_bad(number: usize, place: usize, out: &mut [u8]) -> Laying
@@ -316,7 +319,7 @@ fn report_bad(number: usize, place: usize, out: &mut [u8]) -> Laying
     let end = text::put_decimal(out, start, number);
     let at = text::put_text(out, end, b" at ");
     let newline = text::put_decimal(out, at, place);
-    out[newline] = 10;
+    out[newline] = b'\n';
     Laying::Laid(needed)
 }
 
@@ -326,14 +329,10 @@ pub fn report(file: &[u8], out: &mut [u8]) -> Laying
 {
     let reading = file_reading::read_file(file);
     match reading {
-        Reading::Read(found) => report_good(
-            file,
-            found.filters,
-            found.filters_start,
-            found.frames,
-            found.frames_start,
-            out,
-        ),
+        Reading::Read(sections) => {
+            let filters = read_filters(file, sections);
+            report_good(file, filters, sections, out)
+        }
         Reading::Refused(refusal) => {
             report_bad(refusal.number() as usize, refusal.carried() as usize, out)
         }

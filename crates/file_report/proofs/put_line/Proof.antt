@@ -5,7 +5,10 @@ use native.Mathlib.Omega.{arith}
 use borrow.Author.Needs.{needs}
 use Rattle.text.specs.Decimal.{decimal}
 use Rattle.text.proofs.Put.{place-put, text-put}
-use Rattle.file_report.proofs.Marks.{line-none, line-some, width-none, width-some, any-none}
+use Rattle.file_report.specs.Held.{verdictBy, verdictsBy}
+use Rattle.file_report.proofs.Text.{width-none, width-some}
+use Rattle.file_report.proofs.Marks.{any-none, line-none, line-some}
+use Rattle.file_report.proofs.Held.{verdicts-long}
 use Rattle.file_report.proofs.put_line.Statement.{statement}
 use Rattle.file_report.proofs.put_line.Tie as tie
 
@@ -13,57 +16,106 @@ put-decimal-requires : tie.Need-put-decimal-requires
 put-decimal-requires c κs = search needs
 
 slice-write-out : tie.Need-slice-write-out
-slice-write-out c = omega (arith, place-put (c .before .before .before .before .before .before .args .at) _ (decimal (c .before .before .before .before .before .before .args .index)) (c .before .before .before .before .before .before .args .out .now) (c .before .before .put-decimal .ensures .0) (omega arith), c .before .before .put-decimal .kept .0)
+slice-write-out c =
+    let put = c .before .before in
+    let args = put .before .before .before .args in
+    let place = place-put (args .at) _ (decimal (args .index)) (args .out .now) (put .put-decimal .ensures .0) (omega arith) in
+    omega (arith, place, put .put-decimal .kept .0)
 
 add-marks : tie.Need-add-marks
-add-marks c = omega (arith, place-put (c .before .before .before .before .before .before .args .at) _ (decimal (c .before .before .before .before .before .before .args .index)) (c .before .before .before .before .before .before .args .out .now) (c .before .before .put-decimal .ensures .0) (omega arith), c .before .before .put-decimal .kept .0)
+add-marks c =
+    let put = c .before .before in
+    let args = put .before .before .before .args in
+    let place = place-put (args .at) _ (decimal (args .index)) (args .out .now) (put .put-decimal .ensures .0) (omega arith) in
+    omega (arith, place, put .put-decimal .kept .0)
 
 slice-write-out-2 : tie.Need-slice-write-out-2
-slice-write-out-2 c = simp length-set (omega (arith, place-put (c .before .before .before .before .before .before .before .args .at) _ (decimal (c .before .before .before .before .before .before .before .args .index)) (c .before .before .before .before .before .before .before .args .out .now) (c .before .before .before .put-decimal .ensures .0) (omega arith), c .before .before .before .put-decimal .kept .0, width-none (c .before .before .before .before .before .before .before .args .filters) (c .if1 .taken)))
+slice-write-out-2 c =
+    let put = c .before .before .before in
+    let args = put .before .before .before .args in
+    let place = place-put (args .at) _ (decimal (args .index)) (args .out .now) (put .put-decimal .ensures .0) (omega arith) in
+    let none = width-none (args .filters) (c .if1 .taken) in
+    simp length-set (omega (arith, place, put .put-decimal .kept .0, none))
 
 add-out : tie.Need-add-out
-add-out c = omega (arith, place-put (c .before .before .before .before .before .before .before .args .at) _ (decimal (c .before .before .before .before .before .before .before .args .index)) (c .before .before .before .before .before .before .before .args .out .now) (c .before .before .before .put-decimal .ensures .0) (omega arith), c .before .before .before .put-decimal .kept .0)
+add-out c =
+    let put = c .before .before .before in
+    let args = put .before .before .before .args in
+    let place = place-put (args .at) _ (decimal (args .index)) (args .out .now) (put .put-decimal .ensures .0) (omega arith) in
+    omega (arith, place, put .put-decimal .kept .0)
 
 slice-write-out-3 : tie.Need-slice-write-out-3
-slice-write-out-3 c = simp length-set (omega (arith, place-put (c .before .before .before .before .before .before .before .args .at) _ (decimal (c .before .before .before .before .before .before .before .args .index)) (c .before .before .before .before .before .before .before .args .out .now) (c .before .before .before .put-decimal .ensures .0) (omega arith), c .before .before .before .put-decimal .kept .0, width-none (c .before .before .before .before .before .before .before .args .filters) (c .if1 .taken)))
+slice-write-out-3 c =
+    let put = c .before .before .before in
+    let args = put .before .before .before .args in
+    let place = place-put (args .at) _ (decimal (args .index)) (args .out .now) (put .put-decimal .ensures .0) (omega arith) in
+    let none = width-none (args .filters) (c .if1 .taken) in
+    simp length-set (omega (arith, place, put .put-decimal .kept .0, none))
 
-add-t17 : tie.Need-add-t17
-add-t17 c = omega (arith, place-put (c .before .before .before .before .before .before .before .args .at) _ (decimal (c .before .before .before .before .before .before .before .args .index)) (c .before .before .before .before .before .before .before .args .out .now) (c .before .before .before .put-decimal .ensures .0) (omega arith), c .before .before .before .put-decimal .kept .0)
+add-t18 : tie.Need-add-t18
+add-t18 c =
+    let put = c .before .before .before in
+    let args = put .before .before .before .args in
+    let place = place-put (args .at) _ (decimal (args .index)) (args .out .now) (put .put-decimal .ensures .0) (omega arith) in
+    omega (arith, place, put .put-decimal .kept .0)
 
 same-length : tie.Need-same-length
 same-length c = search needs
 
 returns : tie.Need-returns
+unfolding verdictsBy
 returns c =
-    let none = width-none (c .before .before .before .before .before .before .before .args .filters) (c .if1 .taken) in
-    let place = place-put (c .before .before .before .before .before .before .before .args .at) _ (decimal (c .before .before .before .before .before .before .before .args .index)) (c .before .before .before .before .before .before .before .args .out .now) (c .before .before .before .put-decimal .ensures .0) (omega arith) in (
+    let put = c .before .before .before in
+    let args = put .before .before .before .args in
+    let place = place-put (args .at) _ (decimal (args .index)) (args .out .now) (put .put-decimal .ensures .0) (omega arith) in
+    let none = width-none (args .filters) (c .if1 .taken) in (
       omega (arith, place, none),
-      rw (c .if1 .taken) (any-none (c .before .before .before .before .before .before .before .args .file .now) (c .before .before .before .before .before .before .before .args .frame) (c .before .before .before .before .before .before .before .args .first)),
-      line-none (c .before .before .before .before .before .before .before .args .file .now) (c .before .before .before .before .before .before .before .args .filters) (c .before .before .before .before .before .before .before .args .first) (c .before .before .before .before .before .before .before .args .index) (c .before .before .before .before .before .before .before .args .frame) (c .before .before .before .before .before .before .before .args .at) _ (c .before .before .before .before .before .before .before .args .out .now) _ place (text-put (c .before .before .before .before .before .before .before .args .at) (decimal (c .before .before .before .before .before .before .before .args .index)) (c .before .before .before .before .before .before .before .args .out .now) _ (c .before .before .before .put-decimal .ensures .1) (omega arith)) (c .if1 .taken) (omega (arith, none)),
+      rw (c .if1 .taken) (any-none (verdictBy (args .kinds .now) (args .codes .now) (args .masks .now) (args .shown))),
+      line-none (verdictsBy (args .filters) (args .kinds .now) (args .codes .now) (args .masks .now) (args .shown)) (args .filters) (args .index) (args .at) _ (args .out .now) _ (verdicts-long (args .filters) (args .kinds .now) (args .codes .now) (args .masks .now) (args .shown)) place (text-put (args .at) (decimal (args .index)) (args .out .now) _ (put .put-decimal .ensures .1) (omega arith)) (c .if1 .taken) (omega (arith, none)),
     )
 
 put-marks-requires : tie.Need-put-marks-requires
-put-marks-requires c κs = (omega arith, omega arith, omega arith, simp length-set (omega (arith, place-put (c .before .before .before .before .before .before .before .before .args .at) _ (decimal (c .before .before .before .before .before .before .before .before .args .index)) (c .before .before .before .before .before .before .before .before .args .out .now) (c .before .before .before .before .put-decimal .ensures .0) (omega arith), c .before .before .before .before .put-decimal .kept .0, width-some (c .before .before .before .before .before .before .before .before .args .filters) (c .before .if1 .left))))
+put-marks-requires c κs =
+    let put = c .before .before .before .before in
+    let args = put .before .before .before .args in
+    let place = place-put (args .at) _ (decimal (args .index)) (args .out .now) (put .put-decimal .ensures .0) (omega arith) in
+    let some = width-some (args .filters) (c .before .if1 .left) in
+    (omega arith, simp length-set (omega (arith, place, put .put-decimal .kept .0, some)))
 
 add-newline : tie.Need-add-newline
-add-newline c = omega (arith, place-put (c .before .before .before .before .before .before .before .before .before .before .before .args .at) _ (decimal (c .before .before .before .before .before .before .before .before .before .before .before .args .index)) (c .before .before .before .before .before .before .before .before .before .before .before .args .out .now) (c .before .before .before .before .before .before .before .put-decimal .ensures .0) (omega arith), c .before .before .before .before .before .before .before .put-decimal .kept .0)
+add-newline c =
+    let put = c .before .before .before .before .before .before .before in
+    let args = put .before .before .before .args in
+    let place = place-put (args .at) _ (decimal (args .index)) (args .out .now) (put .put-decimal .ensures .0) (omega arith) in
+    omega (arith, place, put .put-decimal .kept .0)
 
 slice-write-out-4 : tie.Need-slice-write-out-4
-slice-write-out-4 c = omega (arith, simp length-set at (c .before .before .put-marks .kept .1 .1 .1 .1 .0), place-put (c .before .before .before .before .before .before .before .before .before .before .before .args .at) _ (decimal (c .before .before .before .before .before .before .before .before .before .before .before .args .index)) (c .before .before .before .before .before .before .before .before .before .before .before .args .out .now) (c .before .before .before .before .before .before .before .put-decimal .ensures .0) (omega arith), c .before .before .before .before .before .before .before .put-decimal .kept .0, width-some (c .before .before .before .before .before .before .before .before .before .before .before .args .filters) (c .before .before .before .before .if1 .left))
+slice-write-out-4 c =
+    let put = c .before .before .before .before .before .before .before in
+    let args = put .before .before .before .args in
+    let place = place-put (args .at) _ (decimal (args .index)) (args .out .now) (put .put-decimal .ensures .0) (omega arith) in
+    let some = width-some (args .filters) (c .before .before .before .before .if1 .left) in
+    omega (arith, simp length-set at (c .before .before .put-marks .kept .1 .1 .1 .1 .1 .0), place, put .put-decimal .kept .0, some)
 
-add-t22 : tie.Need-add-t22
-add-t22 c = omega (arith, place-put (c .before .before .before .before .before .before .before .before .before .before .before .args .at) _ (decimal (c .before .before .before .before .before .before .before .before .before .before .before .args .index)) (c .before .before .before .before .before .before .before .before .before .before .before .args .out .now) (c .before .before .before .before .before .before .before .put-decimal .ensures .0) (omega arith), c .before .before .before .before .before .before .before .put-decimal .kept .0)
+add-t23 : tie.Need-add-t23
+add-t23 c =
+    let put = c .before .before .before .before .before .before .before in
+    let args = put .before .before .before .args in
+    let place = place-put (args .at) _ (decimal (args .index)) (args .out .now) (put .put-decimal .ensures .0) (omega arith) in
+    omega (arith, place, put .put-decimal .kept .0)
 
 same-length-2 : tie.Need-same-length-2
-same-length-2 c = simp length-set (simp length-set at (c .before .before .put-marks .kept .1 .1 .1 .1 .0) ∙ c .before .before .before .before .before .before .before .put-decimal .kept .0)
+same-length-2 c = simp length-set (simp length-set at (c .before .before .put-marks .kept .1 .1 .1 .1 .1 .0) ∙ c .before .before .before .before .before .before .before .put-decimal .kept .0)
 
 returns-2 : tie.Need-returns-2
 returns-2 c =
-    let some = width-some (c .before .before .before .before .before .before .before .before .before .before .before .args .filters) (c .before .before .before .before .if1 .left) in
-    let place = place-put (c .before .before .before .before .before .before .before .before .before .before .before .args .at) _ (decimal (c .before .before .before .before .before .before .before .before .before .before .before .args .index)) (c .before .before .before .before .before .before .before .before .before .before .before .args .out .now) (c .before .before .before .before .before .before .before .put-decimal .ensures .0) (omega arith) in (
+    let put = c .before .before .before .before .before .before .before in
+    let args = put .before .before .before .args in
+    let place = place-put (args .at) _ (decimal (args .index)) (args .out .now) (put .put-decimal .ensures .0) (omega arith) in
+    let some = width-some (args .filters) (c .before .before .before .before .if1 .left) in (
       omega (arith, place, some),
       c .before .before .put-marks .ensures .0,
-      line-some (c .before .before .before .before .before .before .before .before .before .before .before .args .file .now) (c .before .before .before .before .before .before .before .before .before .before .before .args .filters) (c .before .before .before .before .before .before .before .before .before .before .before .args .first) (c .before .before .before .before .before .before .before .before .before .before .before .args .index) (c .before .before .before .before .before .before .before .before .before .before .before .args .frame) (c .before .before .before .before .before .before .before .before .before .before .before .args .at) _ (c .before .before .before .before .before .before .before .before .before .before .before .args .out .now) _ place (text-put (c .before .before .before .before .before .before .before .before .before .before .before .args .at) (decimal (c .before .before .before .before .before .before .before .before .before .before .before .args .index)) (c .before .before .before .before .before .before .before .before .before .before .before .args .out .now) _ (c .before .before .before .before .before .before .before .put-decimal .ensures .1) (omega arith)) (c .before .before .before .before .if1 .left) _ (omega (arith, some)) (c .before .before .put-marks .ensures .1),
+      line-some (verdictsBy (args .filters) (args .kinds .now) (args .codes .now) (args .masks .now) (args .shown)) (args .filters) (args .index) (args .at) _ (args .out .now) _ (verdicts-long (args .filters) (args .kinds .now) (args .codes .now) (args .masks .now) (args .shown)) place (text-put (args .at) (decimal (args .index)) (args .out .now) _ (put .put-decimal .ensures .1) (omega arith)) (c .before .before .before .before .if1 .left) _ (omega (arith, some)) (c .before .before .put-marks .ensures .1),
     )
 
 pub put-line-spec : {M : Type 1} → statement M
@@ -76,12 +128,12 @@ put-line-spec =
     slice-write-out-2
     add-out
     slice-write-out-3
-    add-t17
+    add-t18
     same-length
     returns
     put-marks-requires
     add-newline
     slice-write-out-4
-    add-t22
+    add-t23
     same-length-2
     returns-2)

@@ -1,32 +1,52 @@
 -- `file_report::put_marks` meets its contract: at each turn one mark more is laid, and it is known whether some filter so far accepts. Assumes nothing.
-use Prim.Native.Nat.{_≤_, _+_, _-_, _*_}
+use Prim.Native.Nat.{_≤_, _-_}
 use mathlib.Core.Path.{_≡_, refl, _∙_}
 use lib.ListN.{length, length-set}
 use native.Mathlib.Omega.{arith}
+use borrow.Author.Needs.{needs}
 use Rattle.laws.specs.Laid.{laid}
-use Rattle.file_reading.specs.Format.{filterBytes}
-use Rattle.file_report.specs.Text.{marksFrom, anyFrom}
-use Rattle.file_report.proofs.Marks.{verdict-is, marks-none, any-none, mark-turn, any-turn}
+use Rattle.laws.specs.Tabulate.{tabulate}
+use Rattle.file_report.specs.Text.{marks, any as some}
+use Rattle.file_report.specs.Held.{verdictBy, verdictsBy}
+use Rattle.file_report.proofs.Marks.{put-none, any-none, mark-turn, any-turn}
 use Rattle.file_report.proofs.put_marks.Statement.{statement}
 use Rattle.file_report.proofs.put_marks.Tie as tie
 
 abbrev Inv-loop : tie.InvT-loop
-Inv-loop file filters first frame out₀ at shown any₀ i₀ filter₀ out any i filter = (i ≤ filters) × (filter ≡ first + filterBytes * i) × (out ≡ laid at (marksFrom file frame i first) out₀) × (any ≡ anyFrom file frame i first) × (length out ≡ length out₀)
+Inv-loop filters kinds codes masks shown out₀ at any₀ i₀ out any i =
+    (i ≤ filters)
+    × (out ≡ laid at (marks (tabulate i (verdictBy kinds codes masks shown))) out₀)
+    × (any ≡ some (tabulate i (verdictBy kinds codes masks shown)))
+    × (length out ≡ length out₀)
 
 abbrev μ-loop : tie.MeasureT-loop
-μ-loop file filters first frame out₀ at shown any₀ i₀ filter₀ out any i filter = filters - i
-
-shown-at-requires : tie.Need-shown-at-requires Inv-loop μ-loop
-shown-at-requires c κs = omega arith
+μ-loop filters kinds codes masks shown out₀ at any₀ i₀ out any i = filters - i
 
 loop-holds : tie.Need-loop-holds Inv-loop μ-loop
-loop-holds c = (omega arith, omega arith, marks-none (c .before .before .before .args .file .now) (c .before .before .before .args .frame) (c .before .before .before .args .first) (c .before .before .before .args .at) (c .before .before .before .args .out .now), any-none (c .before .before .before .args .file .now) (c .before .before .before .args .frame) (c .before .before .before .args .first), refl)
+loop-holds c =
+    let args = c .before .args in
+    (omega arith, put-none (verdictBy (args .kinds .now) (args .codes .now) (args .masks .now) (args .shown)) (args .at) (args .out .now), any-none (verdictBy (args .kinds .now) (args .codes .now) (args .masks .now) (args .shown)), refl)
 
-accepts-at-requires : tie.Need-accepts-at-requires Inv-loop μ-loop
-accepts-at-requires c κs = omega arith
+element-copy-out-accepts : tie.Need-element-copy-out-accepts Inv-loop μ-loop
+element-copy-out-accepts c = omega arith
+
+mul-accepts : tie.Need-mul-accepts Inv-loop μ-loop
+mul-accepts c = omega arith
+
+element-copy-out-accepts-2 : tie.Need-element-copy-out-accepts-2 Inv-loop μ-loop
+element-copy-out-accepts-2 c = omega arith
+
+mul-accepts-2 : tie.Need-mul-accepts-2 Inv-loop μ-loop
+mul-accepts-2 c = omega arith
+
+element-copy-out-accepts-3 : tie.Need-element-copy-out-accepts-3 Inv-loop μ-loop
+element-copy-out-accepts-3 c = omega arith
+
+accepts-requires : tie.Need-accepts-requires Inv-loop μ-loop
+accepts-requires c κs = search needs
 
 mark-requires : tie.Need-mark-requires Inv-loop μ-loop
-mark-requires c κs = tt
+mark-requires c κs = search needs
 
 add-out : tie.Need-add-out Inv-loop μ-loop
 add-out c = omega arith
@@ -35,10 +55,7 @@ slice-write-out : tie.Need-slice-write-out Inv-loop μ-loop
 slice-write-out c = omega arith
 
 either-requires : tie.Need-either-requires Inv-loop μ-loop
-either-requires c κs = tt
-
-add-filter : tie.Need-add-filter Inv-loop μ-loop
-add-filter c = omega arith
+either-requires c κs = search needs
 
 add-i : tie.Need-add-i Inv-loop μ-loop
 add-i c = omega arith
@@ -48,21 +65,25 @@ loop-less c = omega arith
 
 loop-again : tie.Need-loop-again Inv-loop μ-loop
 loop-again c =
-    let is = verdict-is (c .before .before .before .before .before .before .before .before .args .file .now) (c .before .before .before .before .loop .filter) (c .before .before .before .before .before .before .before .before .args .frame) (c .before .before .before .before .before .shown-at .result) (c .before .before .accepts-at .result) (c .before .before .before .before .before .shown-at .ensures) (c .before .before .accepts-at .ensures) in (
+    let turn = c .before .before .before .before .before .before .before in
+    let args = turn .before .before .args in
+    let is = c .before .before .accepts .ensures in (
       omega arith,
-      omega arith,
-      mark-turn (c .before .before .before .before .before .before .before .before .args .file .now) (c .before .before .before .before .before .before .before .before .args .frame) (c .before .before .before .before .before .before .before .before .args .first) (c .before .before .before .before .loop .i) (c .before .before .before .before .loop .filter) (c .before .before .accepts-at .result) (c .before .before .before .before .loop .inv .1) is (c .before .before .before .before .before .before .before .before .args .at) _ _ (c .before .before .before .before .before .before .before .before .args .out .now) (c .before .mark .ensures) (c .before .before .before .before .loop .inv .2) (omega arith),
-      any-turn (c .before .before .before .before .before .before .before .before .args .file .now) (c .before .before .before .before .before .before .before .before .args .frame) (c .before .before .before .before .before .before .before .before .args .first) (c .before .before .before .before .loop .i) (c .before .before .before .before .loop .filter) (c .before .before .accepts-at .result) (c .before .before .before .before .loop .inv .1) is _ _ (c .either .ensures) (c .before .before .before .before .loop .inv .3),
-      simp length-set (c .before .before .before .before .loop .inv .4),
+      mark-turn (verdictBy (args .kinds .now) (args .codes .now) (args .masks .now) (args .shown)) (turn .loop .i) (args .at) _ _ _ (args .out .now) is (c .before .mark .ensures) (turn .loop .inv .1) (omega arith),
+      any-turn (verdictBy (args .kinds .now) (args .codes .now) (args .masks .now) (args .shown)) (turn .loop .i) _ _ _ is (c .either .ensures) (turn .loop .inv .2),
+      simp length-set (turn .loop .inv .3),
     )
 
 same-length : tie.Need-same-length Inv-loop μ-loop
-same-length c = c .before .loop .inv .4
+same-length c = c .before .loop .inv .3
 
 returns : tie.Need-returns Inv-loop μ-loop
+unfolding verdictsBy
 returns c =
-    let all : c .before .loop .i ≡ c .before .before .before .before .before .args .filters = omega arith in
-    (c .before .loop .inv .3 ∙ rw all, c .before .loop .inv .2 ∙ rw all)
+    let turn = c .before in
+    let args = turn .before .before .args in
+    let all : turn .loop .i ≡ args .filters = omega arith in
+    (turn .loop .inv .2 ∙ rw all, turn .loop .inv .1 ∙ rw all)
 
 pub put-marks-spec : {M : Type 1} → statement M
 put-marks-spec =
@@ -70,14 +91,17 @@ put-marks-spec =
     (tie.spec
     Inv-loop
     μ-loop
-    shown-at-requires
     loop-holds
-    accepts-at-requires
+    element-copy-out-accepts
+    mul-accepts
+    element-copy-out-accepts-2
+    mul-accepts-2
+    element-copy-out-accepts-3
+    accepts-requires
     mark-requires
     add-out
     slice-write-out
     either-requires
-    add-filter
     add-i
     loop-less
     loop-again

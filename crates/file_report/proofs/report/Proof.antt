@@ -1,9 +1,11 @@
 -- `file_report::report` meets its contract: the text is that of what the reader answered. Assumes nothing.
 use mathlib.Core.Path.{sym, ap, ap₂, _∙_}
+use native.Mathlib.Omega.{arith}
 use borrow.Author.Needs.{needs}
 use Rattle.file_reading.specs.Reader.{readingSaid}
 use Rattle.file_report.specs.Text.{badText}
-use Rattle.file_report.proofs.Frames.{within, text-is, same-text}
+use Rattle.file_report.proofs.Held.{text-read}
+use Rattle.file_report.proofs.Frames.{within, text-refused, same-text}
 use Rattle.file_report.proofs.report.Statement.{statement}
 use Rattle.file_report.proofs.report.Tie as tie
 
@@ -13,8 +15,15 @@ read-file-requires c κs = search needs
 enum-known-reading : tie.Need-enum-known-reading
 enum-known-reading c = search needs
 
+read-filters-requires : tie.Need-read-filters-requires
+read-filters-requires c κs =
+    let room = within (c .before .before .before .before .before .before .args .file .now) _ (sym (c .before .before .before .read-file .ensures) ∙ ap readingSaid (c .before .reading .given .1)) in
+    (room .0, room .1)
+
 report-good-requires : tie.Need-report-good-requires
-report-good-requires c κs = within (c .before .before .before .before .before .before .before .args .file .now) _ (sym (c .before .before .before .before .read-file .ensures) ∙ ap readingSaid (c .before .before .reading .given .1))
+report-good-requires c κs =
+    let room = within (c .before .before .before .before .before .before .before .before .args .file .now) _ (sym (c .before .before .before .before .before .read-file .ensures) ∙ ap readingSaid (c .before .before .before .reading .given .1)) in
+    (omega (arith, room .0, c .before .read-filters .ensures .as-many), room .2, room .3)
 
 enum-known-reading-2 : tie.Need-enum-known-reading-2
 enum-known-reading-2 c = search needs
@@ -35,13 +44,19 @@ same-length : tie.Need-same-length
 same-length c = search needs
 
 returns : tie.Need-returns
-returns c = same-text _ _ (c .before .before .before .before .before .before .before .before .before .before .args .out .now) _ _ (text-is (c .before .before .before .before .before .before .before .before .before .before .args .file .now) _ (sym (c .before .before .before .before .before .before .before .read-file .ensures) ∙ ap readingSaid (c .before .before .before .before .before .reading .given .1))) (c .before .before .report-good .ensures)
+returns c =
+    let args = c .before .before .before .before .before .before .before .before .before .before .before .args in
+    same-text _ _ (args .out .now) _ _ (text-read (args .file .now) _ _ (c .before .before .before .before .read-filters .ensures) (sym (c .before .before .before .before .before .before .before .before .read-file .ensures) ∙ ap readingSaid (c .before .before .before .before .before .before .reading .given .1))) (c .before .before .report-good .ensures)
 
 same-length-2 : tie.Need-same-length-2
 same-length-2 c = search needs
 
 returns-2 : tie.Need-returns-2
-returns-2 c = same-text _ _ (c .before .before .before .before .before .before .before .before .before .before .before .before .args .out .now) _ _ (text-is (c .before .before .before .before .before .before .before .before .before .before .before .before .args .file .now) _ (sym (c .before .before .before .before .before .before .before .before .before .read-file .ensures) ∙ ap readingSaid (c .before .before .before .before .before .before .before .reading2 .given .1)) ∙ ap₂ badText (sym (c .before .before .before .before .before .number .ensures)) (sym (c .before .before .before .before .carried .ensures))) (c .before .before .report-bad .ensures)
+returns-2 c =
+    let args = c .before .before .before .before .before .before .before .before .before .before .before .before .args in
+    same-text _ _ (args .out .now) _ _
+    (text-refused (args .file .now) _ (sym (c .before .before .before .before .before .before .before .before .before .read-file .ensures) ∙ ap readingSaid (c .before .before .before .before .before .before .before .reading2 .given .1)) ∙ ap₂ badText (sym (c .before .before .before .before .before .number .ensures)) (sym (c .before .before .before .before .carried .ensures)))
+    (c .before .before .report-bad .ensures)
 
 pub report-spec : {M : Type 1} → statement M
 report-spec =
@@ -49,6 +64,7 @@ report-spec =
     (tie.spec
     read-file-requires
     enum-known-reading
+    read-filters-requires
     report-good-requires
     enum-known-reading-2
     number-requires

@@ -1,7 +1,7 @@
 -- `file_report::width` meets its contract: it has the definition's two cases. Assumes nothing.
 use mathlib.Core.Path.{sym}
 use native.Mathlib.Omega.{arith}
-use Rattle.file_report.proofs.Marks.{width-none, width-some}
+use Rattle.file_report.proofs.Text.{width-none, width-some}
 use Rattle.file_report.proofs.width.Statement.{statement}
 use Rattle.file_report.proofs.width.Tie as tie
 
