@@ -262,12 +262,15 @@ static void decisions(void)
 static void box(void)
 {
     run script = bytes("01 012480AB 00*9  04  03 00000003 000000FF 00000001  04*7  02");
-    run broken = bytes("05 FF*1376 02");
+    run no_state = bytes("05 FF*1376 02");
+    run broken = bytes("05 00*897 41 00*478 02");
     answers("script", chherbolat_box_script(script.bytes, script.length, lent(), 203), 0, 11);
     wrote("script", bytes("00 00  09 00*22  00  00*69  00 00 02 00*20  00*46  00 02 00 00*14 01 00 000000FD"
                           "  00 01 00 012480AB 00*9"));
     answers("script, 202 bytes", chherbolat_box_script(script.bytes, script.length, lent(), 202), 6, 203);
     wrote_nothing("script, 202 bytes");
+    answers("script, no state", chherbolat_box_script(no_state.bytes, no_state.length, lent(), 17), 0, 2);
+    wrote("script, no state", bytes("0A 00*16"));
     answers("script, a broken state", chherbolat_box_script(broken.bytes, broken.length, lent(), 17), 0, 2);
     wrote("script, a broken state", bytes("00 0A 00*15"));
 }

@@ -28,8 +28,8 @@ use Rattle.box_drain.specs.Answers.{Told, done, lost, finished}
 use Rattle.box_drain.specs.Step.{stepOf}
 use Rattle.box_drain.specs.Start.{startOf}
 use Rattle.box_drain.specs.Run.{arrives, takes, starts, steps}
-use Rattle.box_script.specs.State.{wordsAt, wordsBytes, entryBytes, recordBytes, entriesBytes, fifoBytes, placesBytes, queueBytes, phaseByte, stateAt, stateBytes}
-use Rattle.box_script.specs.Format.{Asked, calls, loads, tells, callAt}
+use Rattle.box_script.specs.State.{wordsAt, wordsBytes, entryBytes, recordBytes, entriesBytes, fifoBytes, placesBytes, queueBytes, phaseByte, stateBytes}
+use Rattle.box_script.specs.Format.{Asked, calls, loads, tells, loadAt, callAt}
 use Rattle.box_script.specs.Answers.{arrivalBytes, takeBytes, startBytes, stepBytes, callAnswer, answerOf, nextOf, answersOf, answerLength}
 use Rattle.box_script.proofs.Filled.{joined-long}
 
@@ -98,7 +98,7 @@ sizeOf (calls (arrives frame)) = 2
 sizeOf (calls takes) = 16
 sizeOf (calls (starts w)) = 1
 sizeOf (calls steps) = 23
-sizeOf (loads h) = 1
+sizeOf (loads o) = 1
 sizeOf tells = 1376
 
 pub sizesOf : List Asked → ℕ
@@ -119,7 +119,8 @@ answer-size (calls (arrives frame)) g = arrival-bytes-long (arriveOf g frame .0)
 answer-size (calls takes) g = take-bytes-long (takeOf g .0 .0) (takeOf g .0 .1)
 answer-size (calls (starts w)) g = start-bytes-long (startOf g w .0)
 answer-size (calls steps) g = step-bytes-long (stepOf g .0 .0) (stepOf g .0 .1) (stepOf g .0 .2)
-answer-size (loads h) g = refl
+answer-size (loads (gives h)) g = refl
+answer-size (loads (refuses n k)) g = refl
 answer-size tells g = state-long g
 
 pub answers-size : (cs : List Asked) (g : ReceiveBox) → length (answersOf g cs) ≡ sizesOf cs
@@ -137,22 +138,22 @@ unfolding answersOf
 answers-more g c cs = refl
 
 -- the first byte says the same
-by-first : (a b c d e : Bool) (frame : List ℕ) (w : Words) (h : ReceiveBox)
-    → sizeOf (cond a (calls (arrives frame)) (cond b (calls takes) (cond c (calls (starts w)) (cond d (calls steps) (cond e (loads h) tells)))))
+by-first : (a b c d e : Bool) (frame : List ℕ) (w : Words) (o : Said ReceiveBox)
+    → sizeOf (cond a (calls (arrives frame)) (cond b (calls takes) (cond c (calls (starts w)) (cond d (calls steps) (cond e (loads o) tells)))))
     ≡ cond a 2 (cond b 16 (cond c 1 (cond d 23 (cond e 1 1376))))
 unfolding sizeOf
-by-first true b c d e frame w h = refl
-by-first false true c d e frame w h = refl
-by-first false false true d e frame w h = refl
-by-first false false false true e frame w h = refl
-by-first false false false false true frame w h = refl
-by-first false false false false false frame w h = refl
+by-first true b c d e frame w o = refl
+by-first false true c d e frame w o = refl
+by-first false false true d e frame w o = refl
+by-first false false false true e frame w o = refl
+by-first false false false false true frame w o = refl
+by-first false false false false false frame w o = refl
 
 pub size-at : (s : List ℕ) (at : ℕ) → sizeOf (callAt s at) ≡ answerLength (getD s at 0)
 unfolding answerLength
 size-at s at =
     by-first (eqb (getD s at 0) 1) (eqb (getD s at 0) 2) (eqb (getD s at 0) 3) (eqb (getD s at 0) 4) (eqb (getD s at 0) 5)
-    (part s (at + 1) 13) (wordsAt s (at + 1)) (stateAt s (at + 1))
+    (part s (at + 1) 13) (wordsAt s (at + 1)) (loadAt s (at + 1))
 
 pub arrival-size : (first : ℕ) → first ≡ 1 → answerLength first ≡ 2
 unfolding answerLength
