@@ -4,7 +4,6 @@ use mathlib.Core.Path.{sym, _∙_}
 use lib.ListN.{getD}
 use native.Mathlib.Omega.{arith}
 use borrow.Author.Tests.{not-true, not-false, le-leb, lt-leb}
-use borrow.Author.Needs.{needs}
 use Rattle.box_script.specs.State.{encodesState}
 use Rattle.box_script.proofs.encodes_state.Statement.{statement}
 use Rattle.box_script.proofs.encodes_state.Tie as tie
