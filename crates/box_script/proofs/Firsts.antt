@@ -7,7 +7,7 @@ use lib.Dec.{leb}
 use lib.ListN.{getD}
 use native.Mathlib.Omega.{arith}
 use borrow.Author.Tests.{le-leb, lt-leb, leb-true}
-use Rattle.laws.proofs.Bools.{and-first-no, both-true}
+use Rattle.laws.proofs.Bools.{and-first-no, and-yes, both-true}
 use Rattle.box_script.specs.State.{firstsWithin}
 
 module _ (limit : ℕ) (s : List ℕ) where
@@ -52,3 +52,12 @@ module _ (limit : ℕ) (s : List ℕ) where
       let there : at + 14 * suc i ≡ at + 14 + 14 * i = omega arith in
       let rest = both-true (leb (getD s at 0) limit) (firstsWithin n limit s (at + 14)) (sym (next n at) ∙ e) .1 in
       rw there (firsts-at n (at + 14) i rest (omega arith))
+
+  pub firsts-all : (n at : ℕ) → ((i : ℕ) → i < n → getD s (at + 14 * i) 0 ≤ limit) → firstsWithin n limit s at ≡ true
+  firsts-all zero at each = firsts-end 0 at 0 refl
+  firsts-all (suc n) at each =
+      let here : at + 14 * 0 ≡ at = omega arith in
+      let first : getD s at 0 ≤ limit = rw here at (each 0 (omega arith)) in
+      next n at
+      ∙ and-yes (leb (getD s at 0) limit) (firstsWithin n limit s (at + 14)) (le-leb (getD s at 0) limit first)
+      (firsts-all n (at + 14) (λ i h. let there : at + 14 + 14 * i ≡ at + 14 * suc i = omega arith in rw there (each (suc i) (omega arith))))

@@ -1,11 +1,13 @@
--- A part of a list is its beginning and its rest, and so are texts of 14 numbers that stand one after the other. Assumes nothing.
+-- A part of a list is its beginning and its rest, and texts of 14 numbers that stand one after the other are such parts. What is put together so is
+-- taken apart again. Assumes nothing.
 use Prim.Native.Nat.{ℕ, zero, suc, _+_, _*_, _<_}
 use mathlib.Core.Path.{_≡_, refl, sym, ap, ap₂, _∙_}
-use mathlib.Core.List.{List, _∷_, _++_}
-use lib.ListN.{getD}
+use mathlib.Core.List.{List, [], _∷_, _++_}
+use lib.ListN.{length, getD, take, drop}
+use lib.Seq.{take-all, take-at, drop-at}
 use native.Mathlib.Omega.{arith}
 use Rattle.laws.specs.Tabulate.{tabulate, part}
-use Rattle.laws.proofs.Tabulate.{tabulate-ext, tabulate-same}
+use Rattle.laws.proofs.Tabulate.{tabulate-ext, tabulate-same, tabulate-none, length-tabulate, part-is}
 use Rattle.box_script.specs.State.{joined}
 
 module _ {A : Type 0} where
@@ -13,6 +15,11 @@ module _ {A : Type 0} where
   getD-tabulate zero f i d h = absurd (omega arith)
   getD-tabulate (suc n) f zero d h = refl
   getD-tabulate (suc n) f (suc i) d h = getD-tabulate n (λ k. f (suc k)) i d (omega arith)
+
+  pub tabulate-getD : (n : ℕ) (l : List A) (d : A) → length l ≡ n → tabulate n (λ i. getD l i d) ≡ l
+  tabulate-getD n [] d e = tabulate-none n (λ i. d) (omega arith)
+  tabulate-getD zero (x ∷ xs) d e = absurd (omega arith)
+  tabulate-getD (suc n) (x ∷ xs) d e = ap (λ (l : List A). x ∷ l) (tabulate-getD n xs d (omega arith))
 
   tabulate-split : (m n k : ℕ) (f : ℕ → A) → k ≡ m + n → tabulate k f ≡ tabulate m f ++ tabulate n (λ i. f (m + i))
   tabulate-split zero n k f e =
@@ -68,3 +75,30 @@ module _ (l : List ℕ) where
       (same 0 (omega arith) ∙ part-from 14 (at + 14 * 0) at (omega arith))
       (part-joined n (14 * n) (at + 14) (λ i. text (suc i)) refl (λ i h. same (suc i) (omega arith) ∙ part-from 14 (at + 14 * suc i) (at + 14 + 14 * i) (omega arith)))
       ∙ sym (part-split 14 (14 * n) k at (at + 14) (omega arith) refl)
+
+  -- taken apart
+  pub part-parts : (m n k at to : ℕ) (a b : List ℕ) → k ≡ m + n → to ≡ at + m → length a ≡ m → part l at k ≡ a ++ b → (part l at m ≡ a) × (part l to n ≡ b)
+  part-parts m n k at to a b e f long p =
+      let q : part l at m ++ part l to n ≡ a ++ b = sym (part-split m n k at to e f) ∙ p in
+      let same : length (part l at m) ≡ m = length-tabulate m (λ i. getD l (at + i) 0) in (
+        sym (take-at (part l at m) (part l to n) m same) ∙ ap (take m) q ∙ take-at a b m long,
+        sym (drop-at (part l at m) (part l to n) m same) ∙ ap (drop m) q ∙ drop-at a b m long,
+      )
+
+  pub part-cons : (n k at to x : ℕ) (t : List ℕ) → k ≡ suc n → to ≡ at + 1 → part l at k ≡ x ∷ t → (getD l at 0 ≡ x) × (part l to n ≡ t)
+  part-cons n k at to x t e f p =
+      let q : getD l at 0 ∷ part l to n ≡ x ∷ t = sym (part-first n k at to e f) ∙ p in
+      (ap (λ (t : List ℕ). getD t 0 0) q, ap (drop 1) q)
+
+  pub part-texts : (n k at : ℕ) (text : ℕ → List ℕ) → k ≡ 14 * n → ((i : ℕ) → length (text i) ≡ 14) → part l at k ≡ joined n text
+      → (i : ℕ) → i < n → part l (at + 14 * i) 14 ≡ text i
+  part-texts zero k at text e long p i h = absurd (omega arith)
+  part-texts (suc n) k at text e long p zero h =
+      part-from 14 (at + 14 * 0) at (omega arith) ∙ part-parts 14 (14 * n) k at (at + 14) (text 0) (joined n (λ i. text (suc i))) (omega arith) refl (long 0) p .0
+  part-texts (suc n) k at text e long p (suc i) h =
+      part-from 14 (at + 14 * suc i) (at + 14 + 14 * i) (omega arith)
+      ∙ part-texts n (14 * n) (at + 14) (λ i. text (suc i)) refl (λ i. long (suc i))
+      (part-parts 14 (14 * n) k at (at + 14) (text 0) (joined n (λ i. text (suc i))) (omega arith) refl (long 0) p .1) i (omega arith)
+
+pub part-whole : (n : ℕ) (l : List ℕ) → length l ≡ n → part l 0 n ≡ l
+part-whole n l e = sym (part-is n 0 l (omega arith)) ∙ take-all n l (omega arith)
