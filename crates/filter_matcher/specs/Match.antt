@@ -1,7 +1,7 @@
 -- Which frames a filter accepts, position by position over the one table.
 -- Source: ESP32-C3 manual, TWAI chapter, acceptance filter; the outline, "The matcher".
 use Prim.Native.Nat.{ℕ}
-use mathlib.Core.Bool.{Bool, true, _&&_, _||_}
+use mathlib.Core.Bool.{Bool, true, false, _&&_, _||_}
 use mathlib.Core.List.{List, [], _∷_}
 use lib.Dec.{eqb}
 use lib.ListN.{take, drop}
@@ -14,9 +14,10 @@ use Rattle.filter_matcher.specs.Fields.{rowFor, shownBits, firstFields}
 abbrev pub fits : ℕ → ℕ → Bool
 fits asked shown = eqb asked 120 || eqb asked shown
 
+-- each character that is asked for is shown, and fits
 unfoldable pub allFit : List ℕ → List ℕ → Bool
 allFit [] shown = true
-allFit (c ∷ asked) [] = true
+allFit (c ∷ asked) [] = false
 allFit (c ∷ asked) (s ∷ shown) = fits c s && allFit asked shown
 
 -- single: all fields fit; dual: those of either half do
