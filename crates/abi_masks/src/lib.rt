@@ -1,10 +1,9 @@
 // The four filter compilers by code and mask, into a lent slice of eight registers.
 ghost use mathlib.Core.Path.{_≡_};
-ghost use mathlib.Core.Bool.{true, false, _&&_};
 ghost use mathlib.Core.List.{[], _∷_};
 ghost use Rattle.laws.specs.Row.{bit};
 ghost use Rattle.filter_compilers.specs.Table.{singleStandard, singleExtended, dualStandard, dualExtended};
-ghost use Rattle.filter_types.specs.Answers.{codeMaskOf, bothWithin};
+ghost use Rattle.filter_types.specs.Answers.{codeMaskOf};
 ghost use Rattle.abi_answers.specs.Answers.{answerOf, delivering, deliveryLeaves};
 use abi_answers::Answer;
 use filter_types::DualExtendedFilter;
@@ -26,8 +25,8 @@ pub extern "C" fn chherbolat_single_standard_filter_new_from_code_mask(
     second_mask: u8,
     registers: &mut [u8],
 ) -> Answer
-    ensures { λ r. ⌜ r ≡ answerOf (delivering 8 8 (now (registers .entry)) (codeMaskOf singleStandard (bothWithin false «id_code» «id_mask») («id_code» ∷ bit «rtr_code» ∷ «first_code» ∷ «second_code» ∷ []) («id_mask» ∷ bit «rtr_mask» ∷ «first_mask» ∷ «second_mask» ∷ []))) ⌝ }
-    ensures { λ _. ⌜ now (registers .exit) ≡ deliveryLeaves 8 8 (now (registers .entry)) (codeMaskOf singleStandard (bothWithin false «id_code» «id_mask») («id_code» ∷ bit «rtr_code» ∷ «first_code» ∷ «second_code» ∷ []) («id_mask» ∷ bit «rtr_mask» ∷ «first_mask» ∷ «second_mask» ∷ [])) ⌝ }
+    ensures { λ r. ⌜ r ≡ answerOf (delivering 8 8 (now (registers .entry)) (codeMaskOf singleStandard («id_code» ∷ bit «rtr_code» ∷ «first_code» ∷ «second_code» ∷ []) («id_mask» ∷ bit «rtr_mask» ∷ «first_mask» ∷ «second_mask» ∷ []))) ⌝ }
+    ensures { λ _. ⌜ now (registers .exit) ≡ deliveryLeaves 8 8 (now (registers .entry)) (codeMaskOf singleStandard («id_code» ∷ bit «rtr_code» ∷ «first_code» ∷ «second_code» ∷ []) («id_mask» ∷ bit «rtr_mask» ∷ «first_mask» ∷ «second_mask» ∷ [])) ⌝ }
 {
     abi_answers::deliver_registers(
         SingleStandardFilter::new_from_code_mask(
@@ -53,8 +52,8 @@ pub extern "C" fn chherbolat_single_extended_filter_new_from_code_mask(
     rtr_mask: bool,
     registers: &mut [u8],
 ) -> Answer
-    ensures { λ r. ⌜ r ≡ answerOf (delivering 8 4 (now (registers .entry)) (codeMaskOf singleExtended (bothWithin true «id_code» «id_mask») («id_code» ∷ bit «rtr_code» ∷ []) («id_mask» ∷ bit «rtr_mask» ∷ []))) ⌝ }
-    ensures { λ _. ⌜ now (registers .exit) ≡ deliveryLeaves 8 4 (now (registers .entry)) (codeMaskOf singleExtended (bothWithin true «id_code» «id_mask») («id_code» ∷ bit «rtr_code» ∷ []) («id_mask» ∷ bit «rtr_mask» ∷ [])) ⌝ }
+    ensures { λ r. ⌜ r ≡ answerOf (delivering 8 4 (now (registers .entry)) (codeMaskOf singleExtended («id_code» ∷ bit «rtr_code» ∷ []) («id_mask» ∷ bit «rtr_mask» ∷ []))) ⌝ }
+    ensures { λ _. ⌜ now (registers .exit) ≡ deliveryLeaves 8 4 (now (registers .entry)) (codeMaskOf singleExtended («id_code» ∷ bit «rtr_code» ∷ []) («id_mask» ∷ bit «rtr_mask» ∷ [])) ⌝ }
 {
     abi_answers::deliver_registers(
         SingleExtendedFilter::new_from_code_mask(
@@ -82,8 +81,8 @@ pub extern "C" fn chherbolat_dual_standard_filter_new_from_code_mask(
     second_rtr_mask: bool,
     registers: &mut [u8],
 ) -> Answer
-    ensures { λ r. ⌜ r ≡ answerOf (delivering 8 10 (now (registers .entry)) (codeMaskOf dualStandard (bothWithin false «first_id_code» «first_id_mask» && bothWithin false «second_id_code» «second_id_mask») («first_id_code» ∷ bit «first_rtr_code» ∷ «first_payload_code» ∷ «second_id_code» ∷ bit «second_rtr_code» ∷ []) («first_id_mask» ∷ bit «first_rtr_mask» ∷ «first_payload_mask» ∷ «second_id_mask» ∷ bit «second_rtr_mask» ∷ []))) ⌝ }
-    ensures { λ _. ⌜ now (registers .exit) ≡ deliveryLeaves 8 10 (now (registers .entry)) (codeMaskOf dualStandard (bothWithin false «first_id_code» «first_id_mask» && bothWithin false «second_id_code» «second_id_mask») («first_id_code» ∷ bit «first_rtr_code» ∷ «first_payload_code» ∷ «second_id_code» ∷ bit «second_rtr_code» ∷ []) («first_id_mask» ∷ bit «first_rtr_mask» ∷ «first_payload_mask» ∷ «second_id_mask» ∷ bit «second_rtr_mask» ∷ [])) ⌝ }
+    ensures { λ r. ⌜ r ≡ answerOf (delivering 8 10 (now (registers .entry)) (codeMaskOf dualStandard («first_id_code» ∷ bit «first_rtr_code» ∷ «first_payload_code» ∷ «second_id_code» ∷ bit «second_rtr_code» ∷ []) («first_id_mask» ∷ bit «first_rtr_mask» ∷ «first_payload_mask» ∷ «second_id_mask» ∷ bit «second_rtr_mask» ∷ []))) ⌝ }
+    ensures { λ _. ⌜ now (registers .exit) ≡ deliveryLeaves 8 10 (now (registers .entry)) (codeMaskOf dualStandard («first_id_code» ∷ bit «first_rtr_code» ∷ «first_payload_code» ∷ «second_id_code» ∷ bit «second_rtr_code» ∷ []) («first_id_mask» ∷ bit «first_rtr_mask» ∷ «first_payload_mask» ∷ «second_id_mask» ∷ bit «second_rtr_mask» ∷ [])) ⌝ }
 {
     abi_answers::deliver_registers(
         DualStandardFilter::new_from_code_mask(
@@ -111,8 +110,8 @@ pub extern "C" fn chherbolat_dual_extended_filter_new_from_code_mask(
     second_mask: u16,
     registers: &mut [u8],
 ) -> Answer
-    ensures { λ r. ⌜ r ≡ answerOf (delivering 8 4 (now (registers .entry)) (codeMaskOf dualExtended true («first_code» ∷ «second_code» ∷ []) («first_mask» ∷ «second_mask» ∷ []))) ⌝ }
-    ensures { λ _. ⌜ now (registers .exit) ≡ deliveryLeaves 8 4 (now (registers .entry)) (codeMaskOf dualExtended true («first_code» ∷ «second_code» ∷ []) («first_mask» ∷ «second_mask» ∷ [])) ⌝ }
+    ensures { λ r. ⌜ r ≡ answerOf (delivering 8 4 (now (registers .entry)) (codeMaskOf dualExtended («first_code» ∷ «second_code» ∷ []) («first_mask» ∷ «second_mask» ∷ []))) ⌝ }
+    ensures { λ _. ⌜ now (registers .exit) ≡ deliveryLeaves 8 4 (now (registers .entry)) (codeMaskOf dualExtended («first_code» ∷ «second_code» ∷ []) («first_mask» ∷ «second_mask» ∷ [])) ⌝ }
 {
     abi_answers::deliver_registers(
         DualExtendedFilter::new_from_code_mask(first_code, second_code, first_mask, second_mask),

@@ -4,7 +4,6 @@
 use Prim.Native.Nat.{ℕ, zero, suc, _+_, _*_, _^_, _-_, _<_}
 use mathlib.Core.Path.{_≡_, refl, sym, ap, ap₂, _∙_}
 use mathlib.Core.Logic.{_≢_, _↔_, inl, inr}
-use mathlib.Core.Bool.{Bool}
 use mathlib.Core.List.{List, [], _∷_}
 use lib.Bits.{bitXor, differ, xor-lt}
 use lib.Dec.{T}
@@ -27,6 +26,7 @@ use Rattle.filter_compilers.specs.Meaning.{distinct}
 use Rattle.filter_types.specs.Meaning.{Same, SameMeaning, Tidy}
 use Rattle.filter_compilers.proofs.Table.{row-distinct, row-within}
 use Rattle.filter_compilers.proofs.Characters.{one-lt, care-lt, one-not, care-is}
+use Rattle.filter_types.proofs.Answers.{codes-whole}
 use Rattle.filter_types.proofs.Laid.{written-length}
 use Rattle.filter_compilers.proofs.Agree.{at, off, where-is, word-lt, code-at}
 use Rattle.filter_compilers.proofs.Means.{whole, code-small, mask-small, registers-made}
@@ -127,26 +127,26 @@ written-whole (f ∷ fields) (v ∷ values) h =
     ∙ ap₂ _+_ (written-length (length f) v) (written-whole fields values (omega arith))
     ∙ sym (length-append f (joined fields))
 
-module _ (filter : Filter) (within : Bool) (codes masks : List ℕ) (laid : codeMaskOf filter within codes masks .0 ≡ gives 8) where
-  registers-laid : codeMaskOf filter within codes masks .1 ≡ registersOf (laidOf (fieldsOf filter) codes) (laidOf (fieldsOf filter) masks)
+module _ (filter : Filter) (codes masks : List ℕ) (laid : codeMaskOf filter codes masks .0 ≡ gives 8) where
+  registers-laid : codeMaskOf filter codes masks .1 ≡ registersOf (laidOf (fieldsOf filter) codes) (laidOf (fieldsOf filter) masks)
   unfolding codeMaskOf
   registers-laid = rw laid
 
   -- the code's bits stand in the registers, whatever the mask
-  pub code-kept : codeIn (codeMaskOf filter within codes masks .1) ≡ laidOf (fieldsOf filter) codes
+  pub code-kept : codeIn (codeMaskOf filter codes masks .1) ≡ laidOf (fieldsOf filter) codes
   code-kept = ap codeIn registers-laid ∙ code-back (laidOf (fieldsOf filter) codes) (laidOf (fieldsOf filter) masks) (laid-small filter codes)
 
-  pub bit-kept : length codes ≡ length (fieldsOf filter) → (i : ℕ) → i < length (rowOf filter)
-      → bitAt (codeIn (codeMaskOf filter within codes masks .1)) (getD (rowOf filter) i 0) ≡ one (getD (writtenIn (fieldsOf filter) codes) i 0)
+  pub bit-kept : (i : ℕ) → i < length (rowOf filter)
+      → bitAt (codeIn (codeMaskOf filter codes masks .1)) (getD (rowOf filter) i 0) ≡ one (getD (writtenIn (fieldsOf filter) codes) i 0)
   unfolding laidOf
-  bit-kept h i k =
+  bit-kept i k =
+      let long = written-whole (fieldsOf filter) codes (codes-whole filter codes masks laid) in
       ap (λ (x : ℕ). bitAt x (getD (rowOf filter) i 0)) code-kept
-      ∙ code-at (rowOf filter) (writtenIn (fieldsOf filter) codes) (row-distinct filter) (written-whole (fieldsOf filter) codes h) i
-      (omega (arith, written-whole (fieldsOf filter) codes h))
+      ∙ code-at (rowOf filter) (writtenIn (fieldsOf filter) codes) (row-distinct filter) long i (omega arith)
 
   pub builders : (patterns : List (List ℕ)) → compileOf filter patterns .0 ≡ gives 8
-      → SameMeaning (compileOf filter patterns .1) (codeMaskOf filter within codes masks .1)
-      → (compileOf filter patterns .1 ≡ codeMaskOf filter within codes masks .1) ↔ Tidy (laidOf (fieldsOf filter) codes) (laidOf (fieldsOf filter) masks)
+      → SameMeaning (compileOf filter patterns .1) (codeMaskOf filter codes masks .1)
+      → (compileOf filter patterns .1 ≡ codeMaskOf filter codes masks .1) ↔ Tidy (laidOf (fieldsOf filter) codes) (laidOf (fieldsOf filter) masks)
   builders patterns made same =
       let row = rowOf filter in
       let cs = joined patterns in

@@ -1,6 +1,6 @@
 // Filters: the acceptance registers of the four filters, from patterns and from code and mask.
 ghost use mathlib.Core.Path.{_≡_};
-ghost use mathlib.Core.Bool.{true, false, _&&_};
+ghost use mathlib.Core.Bool.{true, false};
 ghost use mathlib.Core.List.{_∷_, []};
 ghost use Prim.Native.Nat.{_<_};
 ghost use Rattle.laws.specs.Row.{bit};
@@ -104,7 +104,7 @@ impl SingleStandardFilter {
         first_mask: u8,
         second_mask: u8,
     ) -> Compiled
-        ensures { λ r. ⌜ compiledSaid r ≡ codeMaskOf singleStandard (bothWithin false («id_code» .0) («id_mask» .0))
+        ensures { λ r. ⌜ compiledSaid r ≡ codeMaskOf singleStandard
             («id_code» .0 ∷ bit «rtr_code» ∷ «first_code» ∷ «second_code» ∷ []) («id_mask» .0 ∷ bit «rtr_mask» ∷ «first_mask» ∷ «second_mask» ∷ []) ⌝ }
     {
         if !standard_within(id_code, id_mask) {
@@ -130,7 +130,7 @@ impl SingleExtendedFilter {
         rtr_code: bool,
         rtr_mask: bool,
     ) -> Compiled
-        ensures { λ r. ⌜ compiledSaid r ≡ codeMaskOf singleExtended (bothWithin true («id_code» .0) («id_mask» .0))
+        ensures { λ r. ⌜ compiledSaid r ≡ codeMaskOf singleExtended
             («id_code» .0 ∷ bit «rtr_code» ∷ []) («id_mask» .0 ∷ bit «rtr_mask» ∷ []) ⌝ }
     {
         if !extended_within(id_code, id_mask) {
@@ -168,7 +168,7 @@ impl DualStandardFilter {
         second_rtr_code: bool,
         second_rtr_mask: bool,
     ) -> Compiled
-        ensures { λ r. ⌜ compiledSaid r ≡ codeMaskOf dualStandard (bothWithin false («first_id_code» .0) («first_id_mask» .0) && bothWithin false («second_id_code» .0) («second_id_mask» .0))
+        ensures { λ r. ⌜ compiledSaid r ≡ codeMaskOf dualStandard
             («first_id_code» .0 ∷ bit «first_rtr_code» ∷ «first_payload_code» ∷ «second_id_code» .0 ∷ bit «second_rtr_code» ∷ [])
             («first_id_mask» .0 ∷ bit «first_rtr_mask» ∷ «first_payload_mask» ∷ «second_id_mask» .0 ∷ bit «second_rtr_mask» ∷ []) ⌝ }
     {
@@ -210,7 +210,7 @@ impl DualExtendedFilter {
         first_mask: u16,
         second_mask: u16,
     ) -> Compiled
-        ensures { λ r. ⌜ compiledSaid r ≡ codeMaskOf dualExtended true («first_code» ∷ «second_code» ∷ []) («first_mask» ∷ «second_mask» ∷ []) ⌝ }
+        ensures { λ r. ⌜ compiledSaid r ≡ codeMaskOf dualExtended («first_code» ∷ «second_code» ∷ []) («first_mask» ∷ «second_mask» ∷ []) ⌝ }
     {
         filter_registers::made(
             dual_extended_word(first_code, second_code),

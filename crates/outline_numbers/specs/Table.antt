@@ -9,7 +9,7 @@ use Rattle.laws.specs.Tabulate.{part}
 use Rattle.identifiers.specs.Answers.{baseOf}
 use Rattle.filter_compilers.specs.Table.{singleStandard, dualStandard, dualExtended}
 use Rattle.filter_compilers.specs.Answers.{compileOf}
-use Rattle.filter_types.specs.Answers.{codeMaskOf, bothWithin}
+use Rattle.filter_types.specs.Answers.{codeMaskOf}
 use Rattle.frame_reading.specs.Buffer.{Frame, dataOf}
 use Rattle.frame_building.specs.Buffer.{bufferOf}
 use Rattle.frame_building.specs.Building.{buildOf, judged}
@@ -78,7 +78,7 @@ valueRows =
     ∷ row (compileOf dualStandard (spare 11 ∷ spare 1 ∷ (one ∷ zero ∷ one ∷ zero ∷ zero ∷ one ∷ zero ∷ one ∷ []) ∷ spare 11 ∷ spare 1 ∷ []))
     (gives 8, 0 ∷ 0x0A ∷ 0 ∷ 0x05 ∷ 0xFF ∷ 0xF0 ∷ 0xFF ∷ 0xF0 ∷ [])
     -- P10
-    ∷ row (codeMaskOf singleStandard (bothWithin false 0x7FF 1) (0x7FF ∷ 0 ∷ 0 ∷ 0 ∷ []) (1 ∷ 0 ∷ 0 ∷ 0 ∷ []))
+    ∷ row (codeMaskOf singleStandard (0x7FF ∷ 0 ∷ 0 ∷ 0 ∷ []) (1 ∷ 0 ∷ 0 ∷ 0 ∷ []))
     (gives 8, 0xFF ∷ 0xE0 ∷ 0 ∷ 0 ∷ 0xFF ∷ 0xDF ∷ 0xFF ∷ 0xFF ∷ [])
     ∷ row (compileOf singleStandard ((spare 10 ++ one ∷ []) ∷ spare 1 ∷ spare 8 ∷ spare 8 ∷ []))
     (gives 8, 0 ∷ 0x20 ∷ 0 ∷ 0 ∷ 0xFF ∷ 0xDF ∷ 0xFF ∷ 0xFF ∷ [])

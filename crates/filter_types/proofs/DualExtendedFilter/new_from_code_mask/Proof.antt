@@ -15,7 +15,7 @@ made-requires : tie.Need-made-requires
 made-requires c κs = search needs
 
 returns : tie.Need-returns
-returns c = c .made .ensures ∙ code-mask-made _ _ _ _ _ _ refl (c .before .before .dual-extended-word .ensures) (c .before .dual-extended-word2 .ensures)
+returns c = c .made .ensures ∙ code-mask-made _ _ _ _ _ refl (c .before .before .dual-extended-word .ensures) (c .before .dual-extended-word2 .ensures)
 
 pub new-from-code-mask-spec : {M : Type 1} → statement M
 new-from-code-mask-spec =
