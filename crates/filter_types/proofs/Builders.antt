@@ -128,7 +128,7 @@ written-whole (f ∷ fields) (v ∷ values) h =
     ∙ sym (length-append f (joined fields))
 
 module _ (filter : Filter) (codes masks : List ℕ) (laid : codeMaskOf filter codes masks .0 ≡ gives 8) where
-  registers-laid : codeMaskOf filter codes masks .1 ≡ registersOf (laidOf (fieldsOf filter) codes) (laidOf (fieldsOf filter) masks)
+  pub registers-laid : codeMaskOf filter codes masks .1 ≡ registersOf (laidOf (fieldsOf filter) codes) (laidOf (fieldsOf filter) masks)
   unfolding codeMaskOf
   registers-laid = rw laid
 
