@@ -1,10 +1,10 @@
 -- The outline's numbers: for each, what the definitions answer and what the outline says.
 -- Source: the outline, "Numbers to check".
 use Prim.Native.Nat.{ℕ, _-_}
-use mathlib.Core.Bool.{Bool, true, false}
+use mathlib.Core.Bool.{Bool, true, false, cond}
 use mathlib.Core.List.{List, [], _∷_, _++_}
 use lib.ListN.{replicate}
-use Rattle.laws.specs.Said.{Said, refuses, gives}
+use Rattle.laws.specs.Said.{Said, refuses, gives, accepted}
 use Rattle.laws.specs.Tabulate.{part}
 use Rattle.identifiers.specs.Answers.{baseOf}
 use Rattle.filter_compilers.specs.Table.{singleStandard, dualStandard, dualExtended}
@@ -27,6 +27,10 @@ pub record Row : Type 0 where
 
 abbrev row : Answered → Answered → Row
 row d o = record { definition = d; outline = o }
+
+-- what follows from the bytes of an answer that was accepted; a refusal stays
+abbrev andThen : Answered → (List ℕ → Answered) → Answered
+andThen a next = cond (accepted (a .0)) (next (a .1)) a
 
 abbrev frame : Bool → ℕ → Bool → ℕ → List ℕ → Frame
 frame extended id remote code payload =
@@ -57,7 +61,7 @@ valueRows =
     row (buildOf (standard 0x7FF 0 [])) (gives 13, 0x00 ∷ 0xFF ∷ 0xE0 ∷ zeros 10)
     ∷ row (buildOf (standard 0x800 0 [])) (refuses 1 0, zeros 13)
     -- P2
-    ∷ row (gives 4, part (bufferOf (frame true 0x1234_5678 false 0 [])) 1 4) (gives 4, 0x91 ∷ 0xA2 ∷ 0xB3 ∷ 0xC0 ∷ [])
+    ∷ row (andThen (buildOf (frame true 0x1234_5678 false 0 [])) (λ buffer. (gives 4, part buffer 1 4))) (gives 4, 0x91 ∷ 0xA2 ∷ 0xB3 ∷ 0xC0 ∷ [])
     ∷ row (baseOf 0x1234_5678, []) (gives 0x48D, [])
     -- P3
     ∷ row (judged (standard 1 15 eight), dataOf (bufferOf (standard 1 15 eight))) (gives 13, eight)
@@ -83,7 +87,8 @@ valueRows =
     ∷ row (compileOf singleStandard ((spare 10 ++ one ∷ []) ∷ spare 1 ∷ spare 8 ∷ spare 8 ∷ []))
     (gives 8, 0 ∷ 0x20 ∷ 0 ∷ 0 ∷ 0xFF ∷ 0xDF ∷ 0xFF ∷ 0xFF ∷ [])
     -- P11
-    ∷ row (flagSaid (matchOf 0 (compileOf singleStandard (spare 11 ∷ spare 1 ∷ (replicate 7 zero ++ one ∷ []) ∷ spare 8 ∷ []) .1) (bufferOf (standard 1 0 []))), [])
+    ∷ row (andThen (compileOf singleStandard (spare 11 ∷ spare 1 ∷ (replicate 7 zero ++ one ∷ []) ∷ spare 8 ∷ []))
+    (λ registers. andThen (buildOf (standard 1 0 [])) (λ buffer. (flagSaid (matchOf 0 registers buffer), []))))
     (gives 0, [])
     ∷ []
 
