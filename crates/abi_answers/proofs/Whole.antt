@@ -1,7 +1,7 @@
 -- What an exported function answers and leaves for a lent slice of the right length, and for any other. Assumes nothing.
 use Prim.Native.Nat.{ℕ}
 use mathlib.Core.Path.{_≡_, ap, sym, _∙_}
-use mathlib.Core.List.{List}
+use mathlib.Core.List.{List, [], _∷_}
 use lib.ListN.{length, replicate, length-replicate}
 use native.Mathlib.Omega.{arith}
 use borrow.Author.Tests.{eq-eqb, ne-eqb, le-leb}
@@ -14,7 +14,7 @@ pub sized-yes : (n argument : ℕ) (slice : List ℕ) (said : Said ℕ) → leng
 unfolding sized
 sized-yes n argument slice said h = rw (eq-eqb (length slice) n h)
 
-pub sized-no : (n argument : ℕ) (slice : List ℕ) (said : Said ℕ) → (length slice ≡ n → ⊥) → sized n argument slice said ≡ refuses 14 argument
+pub sized-no : (n argument : ℕ) (slice : List ℕ) (said : Said ℕ) → (length slice ≡ n → ⊥) → sized n argument slice said ≡ refuses 14 (argument ∷ [])
 unfolding sized
 sized-no n argument slice said h = rw (ne-eqb (length slice) n h)
 

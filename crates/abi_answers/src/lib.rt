@@ -1,5 +1,6 @@
 // What an exported function answers, and bytes in and out of lent slices.
 ghost use mathlib.Core.Path.{_≡_};
+ghost use mathlib.Core.List.{[], _∷_};
 ghost use lib.ListN.{length};
 ghost use Rattle.laws.specs.Said.{gives, refuses};
 ghost use Rattle.laws.specs.Row.{bit};
@@ -40,7 +41,7 @@ pub fn refused(refusal: Refusal) -> Answer
 }
 
 pub fn wrong_length(argument: usize) -> Answer
-    ensures { λ r. ⌜ r ≡ answerOf (refuses 14 argument) ⌝ }
+    ensures { λ r. ⌜ r ≡ answerOf (refuses 14 (argument ∷ [])) ⌝ }
 {
     refused(Refusal::WrongLength(argument))
 }

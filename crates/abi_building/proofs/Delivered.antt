@@ -3,7 +3,7 @@
 use Prim.Native.Nat.{ℕ, _<_}
 use mathlib.Core.Path.{_≡_, refl, ap, sym, _∙_}
 use mathlib.Core.Bool.{Bool, true, false, cond}
-use mathlib.Core.List.{List}
+use mathlib.Core.List.{List, []}
 use lib.Dec.{leb}
 use lib.ListN.{length, replicate}
 use native.Mathlib.Omega.{arith}
@@ -20,7 +20,7 @@ use Rattle.frame_reading.specs.Buffer.{Frame}
 use Rattle.frame_building.specs.Building.{judgeOf, buildOf, asked}
 use Rattle.abi_building.specs.Building.{idFrom, plain}
 
-above : (format : Bool) (id : ℕ) (remote : Bool) (code length : ℕ) → limitOf format < id → judgeOf format id remote code length ≡ refuses 1 0
+above : (format : Bool) (id : ℕ) (remote : Bool) (code length : ℕ) → limitOf format < id → judgeOf format id remote code length ≡ refuses 1 []
 unfolding judgeOf
 above format id remote code length h = rw (lt-leb id (limitOf format) h)
 
@@ -31,7 +31,7 @@ made-id true id i e =
     (sym (ap isExtended same), sym (ap rawOf same))
 made-id false id i e = by (leb id 0xFFFF) e
   where
-    by : (fits : Bool) → cond fits (Read (Standard (record { 0 = id }))) (Refused (IdentifierAboveLimit 0)) ≡ Read i
+    by : (fits : Bool) → cond fits (Read (Standard (record { 0 = id }))) (Refused IdentifierAboveLimit) ≡ Read i
         → (isExtended i ≡ false) × (rawOf i ≡ id)
     by true e =
         let same : Standard (record { 0 = id }) ≡ i = cc in
@@ -44,11 +44,11 @@ pub no-id : (extended : Bool) (id : ℕ) (r : Refusal) → idFrom extended id �
 no-id true id r e remote code length = absurd (let z : _≡_ {A = ℕ} 0 1 = cc in omega arith)
 no-id false id r e remote code length = by (leb id 0xFFFF) refl e
   where
-    by : (fits : Bool) → leb id 0xFFFF ≡ fits → cond fits (Read (Standard (record { 0 = id }))) (Refused (IdentifierAboveLimit 0)) ≡ Refused r
+    by : (fits : Bool) → leb id 0xFFFF ≡ fits → cond fits (Read (Standard (record { 0 = id }))) (Refused IdentifierAboveLimit) ≡ Refused r
         → judgeOf false id remote code length ≡ refusalSaid r
     by true small e = absurd (let z : _≡_ {A = ℕ} 0 1 = cc in omega arith)
     by false large e =
-        let same : IdentifierAboveLimit 0 ≡ r = cc in
+        let same : IdentifierAboveLimit ≡ r = cc in
         above false id remote code length (omega (arith, leb-false id 0xFFFF large)) ∙ ap refusalSaid same
 
 -- the frame that is asked for by an identifier that was made

@@ -17,7 +17,7 @@ use Rattle.abi_answers.specs.Answers.{delivering, deliveryLeaves}
 -- the identifier of a format and a number: a standard number that no u16 holds is none
 abbrev pub idFrom : Bool → ℕ → Identified
 idFrom true raw = Read (Extended (record { 0 = raw }))
-idFrom false raw = cond (leb raw 0xFFFF) (Read (Standard (record { 0 = raw }))) (Refused (IdentifierAboveLimit 0))
+idFrom false raw = cond (leb raw 0xFFFF) (Read (Standard (record { 0 = raw }))) (Refused IdentifierAboveLimit)
 
 abbrev pub plain : Bool → ℕ → Bool → Bool → ℕ → List ℕ → Frame
 plain extended id remote own code payload =

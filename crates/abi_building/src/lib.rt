@@ -24,7 +24,7 @@ fn id_of(extended: bool, raw: u32) -> Identified
     if raw <= 0xFFFF {
         return Identified::Read(Id::Standard(StandardId(raw as u16)));
     }
-    Identified::Refused(Refusal::IdentifierAboveLimit(0))
+    Identified::Refused(Refusal::IdentifierAboveLimit)
 }
 
 // The answer of building, and the buffer in a lent frame, the argument of this number.

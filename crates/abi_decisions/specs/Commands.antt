@@ -1,5 +1,5 @@
--- The command that goes with each answer of transmit, and of receive: the answer tells it. A poll's pending goes with two.
--- Source: the outline, "Decisions". An answer that the call never gives has none.
+-- The command that goes with each answer of transmit, and of receive, so that one look at the answer gives both numbers. An answer that the
+-- call never gives has none. No promise of a public function cites it: that the command goes with the answer is proved where it is used.
 use Rattle.status_decisions.specs.Answers.{Answer, busOff, transmissionAborted, wouldBlock, pending, overrun, done, Action, nothing, abort, writeFrame, readAndRelease}
 
 abbrev pub withTransmit : Answer → Action

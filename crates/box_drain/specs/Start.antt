@@ -2,6 +2,7 @@
 -- Source: the outline, "The box", and refusals 8 and 10.
 use Prim.{Unit, tt}
 use mathlib.Core.Bool.{cond}
+use mathlib.Core.List.{[]}
 use Rattle.laws.specs.Said.{Said, refuses, gives}
 use Rattle.refusals.specs.Table.{refusalSaid}
 use Rattle.box_words.specs.declared.Words.{Words}
@@ -17,7 +18,7 @@ abbrev pub begun : ReceiveBox → Words → ReceiveBox
 begun g w = record { fifo = g .fifo; queue = g .queue; phase = firstPhase w; held = g .held; words = w }
 
 unfoldable pub startOf : ReceiveBox → Words → Said (Unit {0}) × ReceiveBox
-startOf g w = cond (boxOk g) (cond (isIdle (g .phase)) (gives tt, begun g w) (refuses 8 0, g)) (refuses 10 0, g)
+startOf g w = cond (boxOk g) (cond (isIdle (g .phase)) (gives tt, begun g w) (refuses 8 [], g)) (refuses 10 [], g)
 
 abbrev pub startingSaid : Starting → Said (Unit {0})
 startingSaid starting.Started = gives tt

@@ -1,6 +1,7 @@
 -- The steps of a drain, each on the whole state.
 -- Source: the outline, "The box", steps 1 to 4, and refusals 9 and 10.
 use mathlib.Core.Bool.{Bool, true, false, cond}
+use mathlib.Core.List.{[]}
 use lib.Dec.{eqb}
 use Rattle.laws.specs.Said.{Said, refuses, gives}
 use Rattle.box_records.specs.declared.Record.{Record}
@@ -68,7 +69,7 @@ unfoldable pub finishStep : ReceiveBox → StepSaid × ReceiveBox
 finishStep g = ((gives (finished (finishOf (g .words))), command.Nothing, blank), atPhase g phase.Idle)
 
 abbrev pub byPhase : P.Phase → ReceiveBox → StepSaid × ReceiveBox
-byPhase phase.Idle g = ((refuses 9 0, command.Nothing, blank), g)
+byPhase phase.Idle g = ((refuses 9 [], command.Nothing, blank), g)
 byPhase phase.Notice g = noticeStep g
 byPhase phase.Look g = lookStep g
 byPhase phase.Miss g = missStep g
@@ -78,4 +79,4 @@ byPhase phase.Offer g = offerStep g
 byPhase phase.Finish g = finishStep g
 
 unfoldable pub stepOf : ReceiveBox → StepSaid × ReceiveBox
-stepOf g = cond (boxOk g) (byPhase (g .phase) g) ((refuses 10 0, command.Nothing, blank), g)
+stepOf g = cond (boxOk g) (byPhase (g .phase) g) ((refuses 10 [], command.Nothing, blank), g)

@@ -50,7 +50,7 @@ unfoldable pub offerOf : ℕ → Queue → Record → Said Bool × Queue
 offerOf n q x =
     cond (queueOk n q)
     (cond (ltb (q .count) n) (gives true, pushed n q x) (gives false, q))
-    (refuses 10 0, q)
+    (refuses 10 [], q)
 
 abbrev pub offeringSaid : Offering → Said Bool
 offeringSaid offering.Stored = gives true
@@ -68,7 +68,7 @@ unfoldable pub takeOf : ℕ → Queue → TakeSaid × Queue
 takeOf n q =
     cond (queueOk n q)
     (cond (ltb 0 (q .count)) ((gives true, oldest q), popped n q) ((gives false, blank), q))
-    ((refuses 10 0, blank), q)
+    ((refuses 10 [], blank), q)
 
 abbrev pub takingSaid : Taking → Said Bool
 takingSaid taking.Got = gives true

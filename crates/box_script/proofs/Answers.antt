@@ -10,9 +10,6 @@ use native.Mathlib.Omega.{arith}
 use borrow.Author.Tests.{ne-eqb}
 use Rattle.laws.specs.Said.{Said, refuses, gives}
 use Rattle.laws.specs.Tabulate.{part}
-use Rattle.refusals.specs.Table.{numberOf}
-use Rattle.refusals.specs.declared.Refusal.{Refusal}
-use Rattle.refusals.specs.declared.Refusal.the-variants.{IdentifierAboveLimit, InvalidDataLength, NonCompliantDlc, PatternLength, PatternByte, OutputTooShort, FilterKind, DrainRuns, NoDrainRuns, BrokenState, FileEnds, CountAboveLimit, BytesAfterEnd, WrongLength, EmptyList}
 use Rattle.box_records.specs.declared.Record.{Record}
 use Rattle.box_queue.specs.declared.Queue.{Queue}
 use Rattle.box_queue.specs.Ring as Q
@@ -34,22 +31,6 @@ use Rattle.box_script.specs.Answers.{arrivalBytes, takeBytes, startBytes
 use Rattle.box_script.proofs.Filled.{joined-long}
 
 -- a refusal's number is a byte
-pub number-small : (f : Refusal) → numberOf f < 256
-number-small (IdentifierAboveLimit n) = omega arith
-number-small (InvalidDataLength n) = omega arith
-number-small (NonCompliantDlc n) = omega arith
-number-small (PatternLength n) = omega arith
-number-small (PatternByte n) = omega arith
-number-small (OutputTooShort n) = omega arith
-number-small (FilterKind n) = omega arith
-number-small DrainRuns = omega arith
-number-small NoDrainRuns = omega arith
-number-small BrokenState = omega arith
-number-small (FileEnds n) = omega arith
-number-small (CountAboveLimit n) = omega arith
-number-small (BytesAfterEnd n) = omega arith
-number-small (WrongLength n) = omega arith
-number-small EmptyList = omega arith
 
 pub arrival-bytes-long : (o : Said Outcome) → length (arrivalBytes o) ≡ 2
 arrival-bytes-long (gives o) = refl

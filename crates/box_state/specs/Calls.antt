@@ -2,7 +2,7 @@
 -- Source: the outline, "The box", and refusal 10.
 use Prim.Native.Nat.{ℕ}
 use mathlib.Core.Bool.{cond}
-use mathlib.Core.List.{List}
+use mathlib.Core.List.{List, []}
 use Rattle.laws.specs.Said.{Said, refuses, gives}
 use Rattle.refusals.specs.Table.{refusalSaid}
 use Rattle.box_records.specs.declared.Record.{Record}
@@ -40,7 +40,7 @@ unfoldable pub arriveOf : ReceiveBox → List ℕ → Said F.Outcome × ReceiveB
 arriveOf g frame =
     cond (boxOk g)
     (gives (F.arriveOf (g .fifo) frame .0), withOf g (F.arriveOf (g .fifo) frame .1) (g .queue) (g .phase) (g .held))
-    (refuses 10 0, g)
+    (refuses 10 [], g)
 
 abbrev pub arrivingSaid : Arriving → Said F.Outcome
 arrivingSaid (arriving.Answered a) = gives (F.arrivalSaid a)
@@ -54,7 +54,7 @@ unfoldable pub takeOf : ReceiveBox → Q.TakeSaid × ReceiveBox
 takeOf g =
     cond (boxOk g)
     (Q.takeOf Q.queueLimit (g .queue) .0, withOf g (g .fifo) (Q.takeOf Q.queueLimit (g .queue) .1) (g .phase) (g .held))
-    ((refuses 10 0, blank), g)
+    ((refuses 10 [], blank), g)
 
 abbrev pub takenSaid : Taken → Q.TakeSaid × ReceiveBox
 takenSaid r = (Q.takeSaid (r .answer), r .state)

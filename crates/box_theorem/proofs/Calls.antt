@@ -171,7 +171,7 @@ module _ (g : ReceiveBox) (w : Words) (k : Good g) where
       let i = idle-is (g .phase) e in
       record { event = rw (c, i); state = rw (c, i, first-is w (g .held)) }
   started-by false e =
-      let c : startOf g w ≡ (refuses 8 0, g) = simp (good-ok g k, e) in
+      let c : startOf g w ≡ (refuses 8 [], g) = simp (good-ok g k, e) in
       let d = runs (g .phase) (g .words) (g .held) e in
       record { event = rw (c, d .is); state = rw (c, d .is) }
 

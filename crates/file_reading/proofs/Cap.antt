@@ -2,7 +2,7 @@
 use Prim.Native.Nat.{ℕ, zero, suc, _+_, _*_, _≤_, _<_}
 use mathlib.Core.Path.{_≡_, refl, ap, ap₂}
 use mathlib.Core.Bool.{Bool, true, false, cond}
-use mathlib.Core.List.{List}
+use mathlib.Core.List.{List, [], _∷_}
 use lib.Dec.{ltb}
 use lib.ListN.{length, getD, take, length-take}
 use lib.Seq.{take-all, getD-take}
@@ -28,8 +28,8 @@ module _ (t s : List ℕ) (same : (i : ℕ) → i < longest + 1 → getD t i 0 �
       rw (le-ltb (length t) (at + 2) (omega arith), le-ltb (length s) (at + 2) (omega arith), count) (by (ltb frameLimit (countAt s at)) refl)
     where
       by : (above : Bool) → ltb frameLimit (countAt s at) ≡ above
-          → cond above (refuses 12 at) (framesFrom (length t) (sectionsWith filters (countAt s at) (at + 2)) (countAt s at) (at + 2))
-          ≡ cond above (refuses 12 at) (framesFrom (length s) (sectionsWith filters (countAt s at) (at + 2)) (countAt s at) (at + 2))
+          → cond above (refuses 12 (at ∷ [])) (framesFrom (length t) (sectionsWith filters (countAt s at) (at + 2)) (countAt s at) (at + 2))
+          ≡ cond above (refuses 12 (at ∷ [])) (framesFrom (length s) (sectionsWith filters (countAt s at) (at + 2)) (countAt s at) (at + 2))
       by true e = refl
       by false e =
           let few : countAt s at ≤ frameLimit = ltb-false frameLimit (countAt s at) e in
@@ -46,7 +46,7 @@ module _ (t s : List ℕ) (same : (i : ℕ) → i < longest + 1 → getD t i 0 �
         le-ltb (length t) (at + 1 + 8) (omega arith),
         le-ltb (length s) (at + 1 + 8) (omega arith),
       )
-      (ap (λ (r : Said Sections). cond (ltb 1 (getD s at 0)) (refuses 7 at) r) (first-same filters n (at + filterBytes) (omega arith)))
+      (ap (λ (r : Said Sections). cond (ltb 1 (getD s at 0)) (refuses 7 (at ∷ [])) r) (first-same filters n (at + filterBytes) (omega arith)))
 
   read-same : readOf t ≡ readOf s
   unfolding readOf
@@ -54,7 +54,7 @@ module _ (t s : List ℕ) (same : (i : ℕ) → i < longest + 1 → getD t i 0 �
       rw (le-ltb (length t) (0 + 1) (omega arith), le-ltb (length s) (0 + 1) (omega arith), same 0 (omega arith)) (by (ltb filterLimit (getD s 0 0)) refl)
     where
       by : (above : Bool) → ltb filterLimit (getD s 0 0) ≡ above
-          → cond above (refuses 12 0) (filtersFrom t (getD s 0 0) (getD s 0 0) 1) ≡ cond above (refuses 12 0) (filtersFrom s (getD s 0 0) (getD s 0 0) 1)
+          → cond above (refuses 12 (0 ∷ [])) (filtersFrom t (getD s 0 0) (getD s 0 0) 1) ≡ cond above (refuses 12 (0 ∷ [])) (filtersFrom s (getD s 0 0) (getD s 0 0) 1)
       by true e = refl
       by false e =
           let few : getD s 0 0 ≤ filterLimit = ltb-false filterLimit (getD s 0 0) e in

@@ -55,10 +55,10 @@ good-read s filters frames file =
 frames-good : (len : ℕ) (sections : Sections) (n at : ℕ) (x : Sections) → framesFrom len sections n at ≡ gives x → at ≤ len → (at + frameBytes * n ≡ len) × (sections ≡ x)
 unfolding framesFrom
 frames-good len sections zero at x h l =
-    let p = passed (ltb at len) 13 at (gives sections) x h in
+    let p = passed (ltb at len) 13 _ (gives sections) x h in
     (omega (arith, ltb-false at len (p .0)), gives-same sections x (p .1))
 frames-good len sections (suc n) at x h l =
-    let p = passed (ltb len (at + frameBytes)) 11 at (framesFrom len sections n (at + frameBytes)) x h in
+    let p = passed (ltb len (at + frameBytes)) 11 _ (framesFrom len sections n (at + frameBytes)) x h in
     let q = frames-good len sections n (at + frameBytes) x (p .1) (ltb-false len (at + frameBytes) (p .0)) in
     (omega (arith, q .0), q .1)
 
@@ -70,9 +70,9 @@ module _ (s : List ℕ) (filters : ℕ) where
       let e : at + filterBytes * 0 ≡ at = omega arith in
       ((λ i l. absurd (omega arith)), rw e h)
   filters-good (suc n) at x h =
-      let there = passed (ltb (length s) (at + 1)) 11 at _ x h in
-      let kind = passed (ltb 1 (getD s at 0)) 7 at _ x (there .1) in
-      let registers = passed (ltb (length s) (at + 1 + 8)) 11 (at + 1) _ x (kind .1) in
+      let there = passed (ltb (length s) (at + 1)) 11 _ _ x h in
+      let kind = passed (ltb 1 (getD s at 0)) 7 _ _ x (there .1) in
+      let registers = passed (ltb (length s) (at + 1 + 8)) 11 _ _ x (kind .1) in
       let rest = filters-good n (at + filterBytes) x (registers .1) in (
         each (ltb-false 1 (getD s at 0) (kind .0)) (rest .0),
         subst (λ (k : ℕ). framesAt s filters k ≡ gives x) {x = at + filterBytes + filterBytes * n} {y = at + filterBytes * suc n} (omega arith) (rest .1),
@@ -86,11 +86,11 @@ pub read-good : (s : List ℕ) (sections : Sections) → readOf s ≡ gives sect
     → File s (sections .filters) (sections .frames) × (sections .«filters_start» ≡ 1) × (sections .«frames_start» ≡ framesStart (sections .filters))
 unfolding readOf framesAt
 read-good s sections h =
-    let there = passed (ltb (length s) (0 + 1)) 11 0 _ sections h in
-    let few = passed (ltb filterLimit (getD s 0 0)) 12 0 _ sections (there .1) in
+    let there = passed (ltb (length s) (0 + 1)) 11 _ _ sections h in
+    let few = passed (ltb filterLimit (getD s 0 0)) 12 _ _ sections (there .1) in
     let kinds = filters-good s (getD s 0 0) (getD s 0 0) 1 sections (few .1) in
-    let count = passed (ltb (length s) (filtersEnd (getD s 0 0) + 2)) 11 (filtersEnd (getD s 0 0)) _ sections (kinds .1) in
-    let some = passed (ltb frameLimit (countAt s (filtersEnd (getD s 0 0)))) 12 (filtersEnd (getD s 0 0)) _ sections (count .1) in
+    let count = passed (ltb (length s) (filtersEnd (getD s 0 0) + 2)) 11 _ _ sections (kinds .1) in
+    let some = passed (ltb frameLimit (countAt s (filtersEnd (getD s 0 0)))) 12 _ _ sections (count .1) in
     let end = frames-good (length s) _ (countAt s (filtersEnd (getD s 0 0))) (filtersEnd (getD s 0 0) + 2) sections (some .1) (ltb-false (length s) (filtersEnd (getD s 0 0) + 2) (count .0)) in
     let ea : getD s 0 0 ≡ sections .filters = ap (λ (x : Sections). x .filters) (end .1) in
     let ec : countAt s (filtersEnd (getD s 0 0)) ≡ sections .frames = ap (λ (x : Sections). x .frames) (end .1) in

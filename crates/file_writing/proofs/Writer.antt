@@ -100,12 +100,12 @@ pub record Whole (filters frames : List ℕ) (room n : ℕ) : Type 0 where
 pub whole : (filters frames : List ℕ) (room n : ℕ) → writeOf filters frames room ≡ gives n → Whole filters frames room n
 unfolding writeOf
 whole filters frames room n h =
-    let first = passed (ltb 0 (length filters % filterBytes)) 14 0 _ n h in
-    let second = passed (ltb 0 (length frames % frameBytes)) 14 1 _ n (first .1) in
-    let third = passed (ltb filterLimit (filterCount filters)) 12 0 _ n (second .1) in
-    let fourth = passed (ltb frameLimit (frameCount frames)) 12 1 _ n (third .1) in
-    let fifth = passed (ltb (badKind filters) (filterCount filters)) 7 (badKind filters) _ n (fourth .1) in
-    let sixth = passed (ltb room (needed filters frames)) 6 (needed filters frames) _ n (fifth .1) in
+    let first = passed (ltb 0 (length filters % filterBytes)) 14 _ _ n h in
+    let second = passed (ltb 0 (length frames % frameBytes)) 14 _ _ n (first .1) in
+    let third = passed (ltb filterLimit (filterCount filters)) 12 _ _ n (second .1) in
+    let fourth = passed (ltb frameLimit (frameCount frames)) 12 _ _ n (third .1) in
+    let fifth = passed (ltb (badKind filters) (filterCount filters)) 7 _ _ n (fourth .1) in
+    let sixth = passed (ltb room (needed filters frames)) 6 _ _ n (fifth .1) in
     record {
       filters-whole = omega (arith, ltb-false 0 (length filters % filterBytes) (first .0));
       frames-whole = omega (arith, ltb-false 0 (length frames % frameBytes) (second .0));

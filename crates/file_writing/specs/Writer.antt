@@ -2,7 +2,7 @@
 -- Source: the outline, "Frame file and program" and refusals 6, 7, 12, 14 in the writer's order.
 use Prim.Native.Nat.{ℕ, zero, suc, _+_, _*_, _/_, _%_}
 use mathlib.Core.Bool.{cond}
-use mathlib.Core.List.{List, _∷_, _++_}
+use mathlib.Core.List.{List, _∷_, _++_, []}
 use lib.Dec.{ltb}
 use lib.ListN.{length, getD}
 use Rattle.laws.specs.Said.{Said, refuses, gives}
@@ -39,12 +39,12 @@ needed filters frames = 3 + length filters + length frames
 -- by the sections and the length of the output: the length of the file
 unfoldable pub writeOf : List ℕ → List ℕ → ℕ → Said ℕ
 writeOf filters frames room =
-    cond (ltb 0 (length filters % filterBytes)) (refuses 14 0)
-    (cond (ltb 0 (length frames % frameBytes)) (refuses 14 1)
-    (cond (ltb filterLimit (filterCount filters)) (refuses 12 0)
-    (cond (ltb frameLimit (frameCount frames)) (refuses 12 1)
-    (cond (ltb (badKind filters) (filterCount filters)) (refuses 7 (badKind filters))
-    (cond (ltb room (needed filters frames)) (refuses 6 (needed filters frames))
+    cond (ltb 0 (length filters % filterBytes)) (refuses 14 (0 ∷ []))
+    (cond (ltb 0 (length frames % frameBytes)) (refuses 14 (1 ∷ []))
+    (cond (ltb filterLimit (filterCount filters)) (refuses 12 (0 ∷ []))
+    (cond (ltb frameLimit (frameCount frames)) (refuses 12 (1 ∷ []))
+    (cond (ltb (badKind filters) (filterCount filters)) (refuses 7 (badKind filters ∷ []))
+    (cond (ltb room (needed filters frames)) (refuses 6 (needed filters frames ∷ []))
     (gives (needed filters frames)))))))
 
 -- the output at exit

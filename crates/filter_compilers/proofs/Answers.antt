@@ -24,12 +24,12 @@ lengths-pass field (n ∷ ns) [] rest e = absurd (let z : _≡_ {A = ℕ} 0 1 = 
 lengths-pass field (n ∷ ns) (l ∷ ls) rest e = cases (eqb l n) (lengths-pass (suc field) ns ls rest) e
   where
     cases : (t : Bool) → (lengthsOf (suc field) ns ls (gives 8) ≡ gives 8 → lengthsOf (suc field) ns ls rest ≡ rest)
-        → cond t (lengthsOf (suc field) ns ls (gives 8)) (refuses 4 field) ≡ gives 8
-        → cond t (lengthsOf (suc field) ns ls rest) (refuses 4 field) ≡ rest
+        → cond t (lengthsOf (suc field) ns ls (gives 8)) (refuses 4 (field ∷ [])) ≡ gives 8
+        → cond t (lengthsOf (suc field) ns ls rest) (refuses 4 (field ∷ [])) ≡ rest
     cases true r p = r p
     cases false r p = absurd (let z : _≡_ {A = ℕ} 0 1 = cc in omega arith)
 
-pub lengths-stop : (field : ℕ) (ns ls : List ℕ) (rest : Said ℕ) (k v : ℕ) → lengthsOf field ns ls (gives 8) ≡ refuses k v
+pub lengths-stop : (field : ℕ) (ns ls : List ℕ) (rest : Said ℕ) (k : ℕ) (v : List ℕ) → lengthsOf field ns ls (gives 8) ≡ refuses k v
     → lengthsOf field ns ls rest ≡ refuses k v
 lengths-stop field [] [] rest k v e = absurd (let z : _≡_ {A = ℕ} 0 1 = cc in omega arith)
 lengths-stop field [] (l ∷ ls) rest k v e = e
@@ -37,8 +37,8 @@ lengths-stop field (n ∷ ns) [] rest k v e = e
 lengths-stop field (n ∷ ns) (l ∷ ls) rest k v e = cases (eqb l n) (lengths-stop (suc field) ns ls rest k v) e
   where
     cases : (t : Bool) → (lengthsOf (suc field) ns ls (gives 8) ≡ refuses k v → lengthsOf (suc field) ns ls rest ≡ refuses k v)
-        → cond t (lengthsOf (suc field) ns ls (gives 8)) (refuses 4 field) ≡ refuses k v
-        → cond t (lengthsOf (suc field) ns ls rest) (refuses 4 field) ≡ refuses k v
+        → cond t (lengthsOf (suc field) ns ls (gives 8)) (refuses 4 (field ∷ [])) ≡ refuses k v
+        → cond t (lengthsOf (suc field) ns ls rest) (refuses 4 (field ∷ [])) ≡ refuses k v
     cases true r p = r p
     cases false r p = p
 
@@ -49,7 +49,7 @@ lengths-given field (n ∷ ns) [] rest e = absurd (let z : _≡_ {A = ℕ} 0 1 =
 lengths-given field (n ∷ ns) (l ∷ ls) rest e = cases (eqb l n) refl (lengths-given (suc field) ns ls rest) e
   where
     cases : (t : Bool) → eqb l n ≡ t → (lengthsOf (suc field) ns ls rest ≡ gives 8 → (ls ≡ ns) × (rest ≡ gives 8))
-        → cond t (lengthsOf (suc field) ns ls rest) (refuses 4 field) ≡ gives 8 → (l ∷ ls ≡ n ∷ ns) × (rest ≡ gives 8)
+        → cond t (lengthsOf (suc field) ns ls rest) (refuses 4 (field ∷ [])) ≡ gives 8 → (l ∷ ls ≡ n ∷ ns) × (rest ≡ gives 8)
     cases true q r p = (rw (eqb-true l n q, r p .0), r p .1)
     cases false q r p = absurd (let z : _≡_ {A = ℕ} 0 1 = cc in omega arith)
 
@@ -60,7 +60,7 @@ lengths-five a b c d e la lb lc ld le h =
     (cc, cc, cc, cc, cc)
 
 -- ---- the answer
-pub answered-refused : (said : Said ℕ) (registers : List ℕ) (k v : ℕ) → said ≡ refuses k v → _≡_ {A = Said ℕ × List ℕ} (refuses k v, replicate 8 0) (answered said registers)
+pub answered-refused : (said : Said ℕ) (registers : List ℕ) (k : ℕ) (v : List ℕ) → said ≡ refuses k v → _≡_ {A = Said ℕ × List ℕ} (refuses k v, replicate 8 0) (answered said registers)
 answered-refused said registers k v e = rw e
 
 pub answered-made : (said : Said ℕ) (registers given : List ℕ) → said ≡ gives 8 → given ≡ registers → _≡_ {A = Said ℕ × List ℕ} (gives 8, given) (answered said registers)
@@ -68,7 +68,7 @@ answered-made said registers given e h = rw (e, h)
 
 -- ---- a row's compile
 module _ (start a b c d e : ℕ) (p q r s t : List ℕ) where
-  pub length-refused : (row : List ℕ) (k v : ℕ) → lengthsOf 0 (a ∷ b ∷ c ∷ d ∷ e ∷ []) (length p ∷ length q ∷ length r ∷ length s ∷ length t ∷ []) (gives 8) ≡ refuses k v
+  pub length-refused : (row : List ℕ) (k : ℕ) (v : List ℕ) → lengthsOf 0 (a ∷ b ∷ c ∷ d ∷ e ∷ []) (length p ∷ length q ∷ length r ∷ length s ∷ length t ∷ []) (gives 8) ≡ refuses k v
       → _≡_ {A = Said ℕ × List ℕ} (refuses k v, replicate 8 0) (compileBy (a ∷ b ∷ c ∷ d ∷ e ∷ []) row (p ∷ q ∷ r ∷ s ∷ t ∷ []))
   length-refused row k v h = answered-refused _ _ k v (lengths-stop 0 (a ∷ b ∷ c ∷ d ∷ e ∷ []) (length p ∷ length q ∷ length r ∷ length s ∷ length t ∷ []) _ k v h)
 

@@ -82,7 +82,7 @@ bad-spared (c ∷ s) t e = cases (isCharacter c) e (bad-spared s t)
     cases false h r = refl
 
 -- ---- what is said of the characters
-pub bad-said : (s : List ℕ) → allCharacters s ≡ false → charactersOf s ≡ refuses 5 (badAt s)
+pub bad-said : (s : List ℕ) → allCharacters s ≡ false → charactersOf s ≡ refuses 5 (badAt s ∷ [])
 bad-said s e = rw (all-or-bad s, e)
 
 pub good-said : (s : List ℕ) → allCharacters s ≡ true → charactersOf s ≡ gives 8
@@ -95,5 +95,5 @@ said-spared s k = cases (allCharacters s) refl
     cases true e = good-said (s ++ replicate k 120) (all-spared s k ∙ e) ∙ sym (good-said s e)
     cases false e =
         bad-said (s ++ replicate k 120) (all-spared s k ∙ e)
-        ∙ ap (refuses 5) (bad-spared s (replicate k 120) e)
+        ∙ ap (λ (n : ℕ). refuses 5 (n ∷ [])) (bad-spared s (replicate k 120) e)
         ∙ sym (bad-said s e)

@@ -45,7 +45,7 @@ all-good (c ∷ cs) h = cases (isCharacter c) h (all-good cs)
 none-bad : (cs : List ℕ) → charactersOf cs ≡ gives 8 → length cs ≤ badAt cs
 none-bad cs e = cases (ltb (badAt cs) (length cs)) refl e
   where
-    cases : (b : Bool) → ltb (badAt cs) (length cs) ≡ b → cond {A = Said ℕ} b (refuses 5 (badAt cs)) (gives 8) ≡ gives 8 → length cs ≤ badAt cs
+    cases : (b : Bool) → ltb (badAt cs) (length cs) ≡ b → cond {A = Said ℕ} b (refuses 5 (badAt cs ∷ [])) (gives 8) ≡ gives 8 → length cs ≤ badAt cs
     cases true q p = absurd (let z : _≡_ {A = ℕ} 0 1 = cc in omega arith)
     cases false q p = ltb-false (badAt cs) (length cs) q
 

@@ -14,12 +14,12 @@ use Rattle.filter_compilers.specs.Words.{codeOf, maskOf}
 -- by the fields' widths and the patterns' lengths, counted from a field on; and what is said where all are right
 abbrev pub lengthsOf : ℕ → List ℕ → List ℕ → Said ℕ → Said ℕ
 lengthsOf field [] [] rest = rest
-lengthsOf field [] (l ∷ ls) rest = refuses 4 field
-lengthsOf field (n ∷ ns) [] rest = refuses 4 field
-lengthsOf field (n ∷ ns) (l ∷ ls) rest = cond (eqb l n) (lengthsOf (suc field) ns ls rest) (refuses 4 field)
+lengthsOf field [] (l ∷ ls) rest = refuses 4 (field ∷ [])
+lengthsOf field (n ∷ ns) [] rest = refuses 4 (field ∷ [])
+lengthsOf field (n ∷ ns) (l ∷ ls) rest = cond (eqb l n) (lengthsOf (suc field) ns ls rest) (refuses 4 (field ∷ []))
 
 abbrev pub charactersOf : List ℕ → Said ℕ
-charactersOf cs = cond (ltb (badAt cs) (length cs)) (refuses 5 (badAt cs)) (gives 8)
+charactersOf cs = cond (ltb (badAt cs) (length cs)) (refuses 5 (badAt cs ∷ [])) (gives 8)
 
 -- the answer, and the eight registers beside it: zeros after a refusal
 abbrev pub answered : Said ℕ → List ℕ → Said ℕ × List ℕ

@@ -47,9 +47,9 @@ registersOfList extended list = registersFor extended (patternOf (widthOf extend
 -- by format, list and the length of the pattern's buffer
 unfoldable pub listingOf : Bool → List ℕ → ℕ → Said ℕ
 listingOf extended list room =
-    cond (eqb (length list) 0) (refuses 15 0)
-    (cond (ltb (firstAbove (limitOf extended) list) (length list)) (refuses 1 (firstAbove (limitOf extended) list))
-    (cond (ltb room (widthOf extended)) (refuses 6 (widthOf extended)) (gives (throughOf extended (registersOfList extended list)))))
+    cond (eqb (length list) 0) (refuses 15 [])
+    (cond (ltb (firstAbove (limitOf extended) list) (length list)) (refuses 1 (firstAbove (limitOf extended) list ∷ []))
+    (cond (ltb room (widthOf extended)) (refuses 6 (widthOf extended ∷ [])) (gives (throughOf extended (registersOfList extended list)))))
 
 -- the answer, and the registers beside it: zeros after a refusal
 abbrev pub listedOf : Bool → List ℕ → ℕ → Said ℕ × List ℕ

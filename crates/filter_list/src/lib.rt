@@ -138,7 +138,7 @@ pub fn from_list(extended: bool, list: &[u32], pattern: &mut [u8]) -> Listed
     let folded = fold(list, identifiers::limit(extended));
     let above = folded.above;
     if above < list.len() {
-        return refused(Refusal::IdentifierAboveLimit(above));
+        return refused(Refusal::EntryAboveLimit(above));
     }
     if pattern.len() < needed {
         return refused(Refusal::OutputTooShort(needed));

@@ -3,7 +3,7 @@
 use Prim.Native.Nat.{ℕ, _/_, _%_, _^_, _<_}
 use mathlib.Core.Path.{_≡_, sym, ap, ap₂, subst, _∙_}
 use mathlib.Core.Bool.{Bool, true, false, cond, _||_}
-use mathlib.Core.List.{List, map}
+use mathlib.Core.List.{List, map, [], _∷_}
 use lib.Dec.{T, eqb, ltb}
 use lib.ListN.{length, take, drop}
 use borrow.Author.Tests.{ne-eqb}
@@ -77,7 +77,7 @@ module _ (registers frame : List ℕ) (code-small : codeIn registers < 2 ^ 32) (
 
   pub compare-is : (kind : ℕ) → compareOf kind (codeIn registers) (maskIn registers) (showOf frame) ≡ matchOf kind registers frame
   unfolding compareOf matchOf
-  compare-is kind = ap (λ (b : Bool). cond {A = Said Bool} (ltb 1 kind) (refuses 7 0) (gives b)) (agrees-is (eqb kind 1))
+  compare-is kind = ap (λ (b : Bool). cond {A = Said Bool} (ltb 1 kind) (refuses 7 (0 ∷ [])) (gives b)) (agrees-is (eqb kind 1))
 
 -- ---- the compare of a dual filter: the first half, and the second where the first does not agree
 pub by-first : (kind code mask m : ℕ) (shown : Shown) → kind ≡ 1 → m ≡ missOf code mask (shown .dual) (shown .first) → m ≡ 0

@@ -2,7 +2,7 @@
 -- Source: the outline, "The matcher" and refusal 7.
 use Prim.Native.Nat.{ℕ, _-_, _^_}
 use mathlib.Core.Bool.{Bool, true, false, cond, _||_}
-use mathlib.Core.List.{List}
+use mathlib.Core.List.{List, [], _∷_}
 use lib.Bits.{bitAnd, bitXor}
 use lib.Dec.{eqb, ltb}
 use Rattle.laws.specs.Said.{Said, refuses, gives}
@@ -23,7 +23,7 @@ agreesOf dual code mask shown =
 
 -- by kind: 0 single, 1 dual, refusal 7 for any other
 abbrev pub byKind : ℕ → (Bool → Bool) → Said Bool
-byKind kind verdict = cond (ltb 1 kind) (refuses 7 0) (gives (verdict (eqb kind 1)))
+byKind kind verdict = cond (ltb 1 kind) (refuses 7 (0 ∷ [])) (gives (verdict (eqb kind 1)))
 
 unfoldable pub compareOf : ℕ → ℕ → ℕ → Shown → Said Bool
 compareOf kind code mask shown = byKind kind (λ dual. agreesOf dual code mask shown)

@@ -2,6 +2,7 @@
 pub mod shown;
 
 ghost use mathlib.Core.Path.{_≡_};
+ghost use mathlib.Core.List.{[], _∷_};
 ghost use Prim.Native.Nat.{_/_, _%_, _^_};
 ghost use Rattle.laws.specs.Said.{refuses, gives};
 ghost use Rattle.filter_matcher.specs.Words.{missOf, compareOf, matchOf, matchingSaid};
@@ -39,7 +40,7 @@ fn verdict(accepted: bool) -> Matching
 }
 
 fn wrong_kind() -> Matching
-    ensures { λ r. ⌜ matchingSaid r ≡ refuses 7 0 ⌝ }
+    ensures { λ r. ⌜ matchingSaid r ≡ refuses 7 (0 ∷ []) ⌝ }
 {
     Matching::Refused(Refusal::FilterKind(0))
 }

@@ -14,7 +14,7 @@ use Rattle.filter_types.specs.Words.{laidOf}
 use Rattle.filter_types.specs.Answers.{Held, identifier, number, heldBy, allWithin, limitsKept, codeMaskOf, bothWithin}
 
 pub code-mask-refused : (filter : Filter) (codes masks : List ℕ) → limitsKept filter codes masks ≡ false
-    → _≡_ {A = Said ℕ × List ℕ} (refuses 1 0, replicate 8 0) (codeMaskOf filter codes masks)
+    → _≡_ {A = Said ℕ × List ℕ} (refuses 1 [], replicate 8 0) (codeMaskOf filter codes masks)
 unfolding codeMaskOf
 code-mask-refused filter codes masks e = rw e
 
@@ -73,7 +73,7 @@ module _ (filter : Filter) (codes masks : List ℕ) (laid : codeMaskOf filter co
   unfolding codeMaskOf
   kept = by (limitsKept filter codes masks) laid
     where
-      by : (b : Bool) → cond {A = Said ℕ} b (gives 8) (refuses 1 0) ≡ gives 8 → b ≡ true
+      by : (b : Bool) → cond {A = Said ℕ} b (gives 8) (refuses 1 []) ≡ gives 8 → b ≡ true
       by true e = refl
       by false e = absurd (false≢true (ap accepted e))
 

@@ -38,9 +38,9 @@ limitsKept filter codes masks = allWithin (heldBy filter) codes && allWithin (he
 -- from each field's code and mask
 unfoldable pub codeMaskOf : Filter → List ℕ → List ℕ → Said ℕ × List ℕ
 codeMaskOf filter codes masks =
-    answered (cond (limitsKept filter codes masks) (gives 8) (refuses 1 0))
+    answered (cond (limitsKept filter codes masks) (gives 8) (refuses 1 []))
     (registersOf (laidOf (fieldsOf filter) codes) (laidOf (fieldsOf filter) masks))
 
--- one identifier's code and mask
+-- one identifier's code and mask, for the two private functions that judge them: no promise of a public function cites it
 abbrev pub bothWithin : Bool → ℕ → ℕ → Bool
 bothWithin format code mask = leb code (limitOf format) && leb mask (limitOf format)

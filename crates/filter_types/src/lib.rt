@@ -108,7 +108,7 @@ impl SingleStandardFilter {
             («id_code» .0 ∷ bit «rtr_code» ∷ «first_code» ∷ «second_code» ∷ []) («id_mask» .0 ∷ bit «rtr_mask» ∷ «first_mask» ∷ «second_mask» ∷ []) ⌝ }
     {
         if !standard_within(id_code, id_mask) {
-            return filter_registers::refused(Refusal::IdentifierAboveLimit(0));
+            return filter_registers::refused(Refusal::IdentifierAboveLimit);
         }
         filter_registers::made(
             single_standard_word(id_code, rtr_code, first_code, second_code),
@@ -134,7 +134,7 @@ impl SingleExtendedFilter {
             («id_code» .0 ∷ bit «rtr_code» ∷ []) («id_mask» .0 ∷ bit «rtr_mask» ∷ []) ⌝ }
     {
         if !extended_within(id_code, id_mask) {
-            return filter_registers::refused(Refusal::IdentifierAboveLimit(0));
+            return filter_registers::refused(Refusal::IdentifierAboveLimit);
         }
         filter_registers::made(
             single_extended_word(id_code, rtr_code),
@@ -173,10 +173,10 @@ impl DualStandardFilter {
             («first_id_mask» .0 ∷ bit «first_rtr_mask» ∷ «first_payload_mask» ∷ «second_id_mask» .0 ∷ bit «second_rtr_mask» ∷ []) ⌝ }
     {
         if !standard_within(first_id_code, first_id_mask) {
-            return filter_registers::refused(Refusal::IdentifierAboveLimit(0));
+            return filter_registers::refused(Refusal::IdentifierAboveLimit);
         }
         if !standard_within(second_id_code, second_id_mask) {
-            return filter_registers::refused(Refusal::IdentifierAboveLimit(0));
+            return filter_registers::refused(Refusal::IdentifierAboveLimit);
         }
         filter_registers::made(
             dual_standard_word(

@@ -2,6 +2,7 @@
 use Prim.Native.Nat.{ℕ, _%_, _≤_, _<_}
 use mathlib.Core.Path.{_≡_, refl}
 use mathlib.Core.Bool.{Bool, true, false, cond, not, _||_, _&&_}
+use mathlib.Core.List.{[], _∷_}
 use lib.Dec.{leb, ltb, eqb}
 use native.Mathlib.Omega.{arith}
 use borrow.Author.Tests.{ltb-true, ltb-false, leb-true, eqb-true, le-leb, le-ltb, lt-ltb, eq-eqb, not-false}
@@ -19,7 +20,7 @@ pub record Good (format : Bool) (id : ℕ) (remote : Bool) (code length : ℕ) :
   pub full : length ≡ 8 → 8 ≤ code
 
 -- none of three refusals was due
-passed : (a b c : Bool) (l d : ℕ) → cond {A = Said ℕ} (not a) (refuses 1 0) (cond b (refuses 2 l) (cond c (refuses 3 d) (gives 13))) ≡ gives 13
+passed : (a b c : Bool) (l d : ℕ) → cond {A = Said ℕ} (not a) (refuses 1 []) (cond b (refuses 2 (l ∷ [])) (cond c (refuses 3 (d ∷ [])) (gives 13))) ≡ gives 13
     → (a ≡ true) × (b ≡ false) × (c ≡ false)
 passed false b c l d e = absurd (let z : _≡_ {A = ℕ} 0 1 = cc in omega arith)
 passed true true c l d e = absurd (let z : _≡_ {A = ℕ} 0 1 = cc in omega arith)

@@ -2,7 +2,7 @@
 -- Source: the outline, refusals 1 to 3 in this order; ISO 11898-1, data length code.
 use Prim.Native.Nat.{ℕ, _%_}
 use mathlib.Core.Bool.{Bool, false, cond, not, _&&_, _||_}
-use mathlib.Core.List.{List}
+use mathlib.Core.List.{List, [], _∷_}
 use lib.Dec.{eqb, ltb, leb}
 use lib.ListN.{length, replicate}
 use Rattle.laws.specs.Said.{Said, refuses, gives, accepted}
@@ -26,9 +26,9 @@ nonCompliant code length = ltb 15 code || (ltb length 8 && not (eqb code length)
 -- by format, identifier, remote request, code and data length; what is accepted makes 13 bytes
 unfoldable pub judgeOf : Bool → ℕ → Bool → ℕ → ℕ → Said ℕ
 judgeOf format id remote code length =
-    cond (not (leb id (limitOf format))) (refuses 1 0)
-    (cond (invalidLength remote length) (refuses 2 (length % 256))
-    (cond (nonCompliant code length) (refuses 3 (code % 256)) (gives 13)))
+    cond (not (leb id (limitOf format))) (refuses 1 [])
+    (cond (invalidLength remote length) (refuses 2 ((length % 256) ∷ []))
+    (cond (nonCompliant code length) (refuses 3 ((code % 256) ∷ [])) (gives 13)))
 
 abbrev pub judged : Frame → Said ℕ
 judged f = judgeOf (f .extended) (f .id) (f .remote) (f .code) (length (f .payload))

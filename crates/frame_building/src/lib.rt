@@ -55,7 +55,7 @@ fn judge(id: Id, remote: bool, dlc: usize, length: usize) -> Building
     ensures { λ r. ⌜ buildingSaid r ≡ judgeOf (isExtended id) (rawOf id) remote dlc length ⌝ }
 {
     if !id.within_limit() {
-        return Building::Refused(Refusal::IdentifierAboveLimit(0));
+        return Building::Refused(Refusal::IdentifierAboveLimit);
     }
     if invalid_data_length(remote, length) {
         return Building::Refused(Refusal::InvalidDataLength((length % 256) as u8));

@@ -2,6 +2,7 @@
 -- Source: ISO 11898-1, base and extended format; the outline, "Modules" and refusal 1.
 use Prim.Native.Nat.{ℕ, _/_, _^_}
 use mathlib.Core.Bool.{Bool, true, cond}
+use mathlib.Core.List.{[]}
 use lib.Dec.{leb}
 use Rattle.laws.specs.Said.{Said, refuses, gives}
 use Rattle.refusals.specs.Table.{refusalSaid}
@@ -21,7 +22,7 @@ extendedSaid (extended.Refused f) = refusalSaid f
 
 -- within its limit a value, above it refusal 1
 abbrev pub checked : Bool → ℕ → ℕ → Said ℕ
-checked format raw value = cond (leb raw (limitOf format)) (gives value) (refuses 1 0)
+checked format raw value = cond (leb raw (limitOf format)) (gives value) (refuses 1 [])
 
 abbrev pub newOf : Bool → ℕ → Said ℕ
 newOf format raw = checked format raw raw

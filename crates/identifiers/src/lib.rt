@@ -51,7 +51,7 @@ impl StandardId {
         if raw <= 0x7FF {
             StandardMade::Made(StandardId(raw))
         } else {
-            StandardMade::Refused(Refusal::IdentifierAboveLimit(0))
+            StandardMade::Refused(Refusal::IdentifierAboveLimit)
         }
     }
 
@@ -69,7 +69,7 @@ impl ExtendedId {
         if raw <= 0x1FFF_FFFF {
             ExtendedMade::Made(ExtendedId(raw))
         } else {
-            ExtendedMade::Refused(Refusal::IdentifierAboveLimit(0))
+            ExtendedMade::Refused(Refusal::IdentifierAboveLimit)
         }
     }
 
@@ -88,7 +88,7 @@ impl ExtendedId {
         if raw <= 0x1FFF_FFFF {
             StandardMade::Made(StandardId((raw >> 18) as u16))
         } else {
-            StandardMade::Refused(Refusal::IdentifierAboveLimit(0))
+            StandardMade::Refused(Refusal::IdentifierAboveLimit)
         }
     }
 }

@@ -79,7 +79,7 @@ laid-paste at text out =
     ∙ rw take-length
 
 -- the answer and the output, where room is asked for
-pub laying-short : (text out : List ℕ) (n : ℕ) → n ≡ length text → length out < n → (refuses 6 n ≡ laying text out) × (out ≡ written (laying text out) text out)
+pub laying-short : (text out : List ℕ) (n : ℕ) → n ≡ length text → length out < n → (refuses 6 (n ∷ []) ≡ laying text out) × (out ≡ written (laying text out) text out)
 unfolding laying written
 laying-short text out n e h =
     let short : leb (length text) (length out) ≡ false = lt-leb (length text) (length out) (omega arith) in

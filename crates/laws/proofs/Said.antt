@@ -2,9 +2,10 @@
 use Prim.Native.Nat.{ℕ}
 use mathlib.Core.Path.{_≡_, refl, ap}
 use mathlib.Core.Bool.{Bool, true, false, cond, false≢true}
+use mathlib.Core.List.{List}
 use Rattle.laws.specs.Said.{Said, refuses, gives, accepted}
 
-pub passed : {A : Type 0} (refused : Bool) (k n : ℕ) (next : Said A) (x : A)
+pub passed : {A : Type 0} (refused : Bool) (k : ℕ) (n : List ℕ) (next : Said A) (x : A)
     → cond refused (refuses k n) next ≡ gives x → (refused ≡ false) × (next ≡ gives x)
 passed true k n next x e = absurd (false≢true (ap accepted e))
 passed false k n next x e = (refl, e)

@@ -59,19 +59,19 @@ abbrev pub valueRows : List Row
 valueRows =
     -- P1
     row (buildOf (standard 0x7FF 0 [])) (gives 13, 0x00 ∷ 0xFF ∷ 0xE0 ∷ zeros 10)
-    ∷ row (buildOf (standard 0x800 0 [])) (refuses 1 0, zeros 13)
+    ∷ row (buildOf (standard 0x800 0 [])) (refuses 1 [], zeros 13)
     -- P2
     ∷ row (andThen (buildOf (frame true 0x1234_5678 false 0 [])) (λ buffer. (gives 4, part buffer 1 4))) (gives 4, 0x91 ∷ 0xA2 ∷ 0xB3 ∷ 0xC0 ∷ [])
     ∷ row (baseOf 0x1234_5678, []) (gives 0x48D, [])
     -- P3
     ∷ row (judged (standard 1 15 eight), dataOf (bufferOf (standard 1 15 eight))) (gives 13, eight)
-    ∷ row (buildOf (standard 1 16 eight)) (refuses 3 16, zeros 13)
+    ∷ row (buildOf (standard 1 16 eight)) (refuses 3 (16 ∷ []), zeros 13)
     -- P4
-    ∷ row (buildOf (standard 1 8 (replicate 7 1))) (refuses 3 8, zeros 13)
+    ∷ row (buildOf (standard 1 8 (replicate 7 1))) (refuses 3 (8 ∷ []), zeros 13)
     -- P5
-    ∷ row (buildOf (standard 1 99 (replicate 264 1))) (refuses 2 8, zeros 13)
+    ∷ row (buildOf (standard 1 99 (replicate 264 1))) (refuses 2 (8 ∷ []), zeros 13)
     -- P6
-    ∷ row (buildOf (frame false 1 true 1 [])) (refuses 3 1, zeros 13)
+    ∷ row (buildOf (frame false 1 true 1 [])) (refuses 3 (1 ∷ []), zeros 13)
     -- P7
     ∷ row (compileOf singleStandard ((spare 10 ++ zero ∷ []) ∷ spare 1 ∷ spare 8 ∷ spare 8 ∷ []))
     (gives 8, 0 ∷ 0 ∷ 0 ∷ 0 ∷ 0xFF ∷ 0xDF ∷ 0xFF ∷ 0xFF ∷ [])

@@ -1,10 +1,10 @@
-// The refusals of the outline and of its change requests, in the order of their numbers, each with what it carries.
+// The refusals of the outline and of its change requests, in the order in which they were added, each with what it carries.
 ghost use mathlib.Core.Path.{_≡_};
-ghost use Rattle.refusals.specs.Table.{numberOf, carriedOf};
+ghost use Rattle.refusals.specs.Table.{numberOf, carriedOf, inOne};
 
 pub enum Refusal {
-    // An identifier above its limit: its index in a list, or 0.
-    IdentifierAboveLimit(usize),
+    // An identifier above its limit.
+    IdentifierAboveLimit,
     // Data longer than 8, or a remote frame with data: the length modulo 256.
     InvalidDataLength(u8),
     // A length code above 15, or one that does not fit the data: the code modulo 256.
@@ -33,6 +33,8 @@ pub enum Refusal {
     WrongLength(usize),
     // A list with no entry.
     EmptyList,
+    // An identifier above its limit in a list: its index.
+    EntryAboveLimit(usize),
 }
 
 impl Refusal {
@@ -41,7 +43,7 @@ impl Refusal {
         ensures { λ r. ⌜ r ≡ numberOf self ⌝ }
     {
         match self {
-            Refusal::IdentifierAboveLimit(_) => 1,
+            Refusal::IdentifierAboveLimit => 1,
             Refusal::InvalidDataLength(_) => 2,
             Refusal::NonCompliantDlc(_) => 3,
             Refusal::PatternLength(_) => 4,
@@ -56,15 +58,16 @@ impl Refusal {
             Refusal::BytesAfterEnd(_) => 13,
             Refusal::WrongLength(_) => 14,
             Refusal::EmptyList => 15,
+            Refusal::EntryAboveLimit(_) => 1,
         }
     }
 
-    // What it carries, 0 where that is nothing.
+    // The numbers that it carries, in one.
     pub fn carried(self) -> u64
-        ensures { λ r. ⌜ r ≡ carriedOf self ⌝ }
+        ensures { λ r. ⌜ r ≡ inOne (carriedOf self) ⌝ }
     {
         match self {
-            Refusal::IdentifierAboveLimit(index) => index as u64,
+            Refusal::IdentifierAboveLimit => 0,
             Refusal::InvalidDataLength(length) => length as u64,
             Refusal::NonCompliantDlc(code) => code as u64,
             Refusal::PatternLength(field) => field as u64,
@@ -79,6 +82,7 @@ impl Refusal {
             Refusal::BytesAfterEnd(offset) => offset as u64,
             Refusal::WrongLength(at) => at as u64,
             Refusal::EmptyList => 0,
+            Refusal::EntryAboveLimit(index) => index as u64,
         }
     }
 }

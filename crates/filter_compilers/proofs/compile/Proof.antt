@@ -1,4 +1,6 @@
 -- `filter_compilers::compile` meets its contract: all are pattern characters and both words are the row's, or the first that is none is named. Assumes nothing.
+use Prim.Native.Nat.{ℕ}
+use mathlib.Core.List.{[], _∷_}
 use mathlib.Core.Path.{_≡_, sym, ap, ap₂, _∙_}
 use lib.ListN.{length}
 use native.Mathlib.Omega.{arith}
@@ -24,7 +26,7 @@ returns : tie.Need-returns
 returns c =
     let s = c .before .before .before .before .before .args .joined .now in
     let none = sym (c .before .before .before .all-known .ensures) ∙ not-true _ (c .before .before .if1 .taken) in
-    c .refused .ensures ∙ answered-refused _ _ 5 _ (bad-said s none ∙ ap (refuses 5) (sym (c .before .first-bad .ensures)))
+    c .refused .ensures ∙ answered-refused _ _ 5 _ (bad-said s none ∙ ap (λ (n : ℕ). refuses 5 (n ∷ [])) (sym (c .before .first-bad .ensures)))
 
 fill-requires : tie.Need-fill-requires
 fill-requires c κs =
