@@ -17,10 +17,11 @@ use Rattle.filter_list.specs.declared.Listing.{Listing}
 use Rattle.filter_list.specs.declared.Listing.the-variants.{Made, Refused}
 use Rattle.filter_list.specs.declared.Listed.{Listed}
 use Rattle.filter_list.proofs.Pattern.{down-length}
-use Rattle.filter_report.specs.Lines.{Found, listed, foundIn, readingWithin}
-use Rattle.filter_report.specs.Text.{noneText, throughIn, filterText, listText}
+use Rattle.filter_report.specs.Lines.{Found, listed, foundIn}
+use Rattle.filter_report.specs.Text.{noneText, filterText, listText}
 use Rattle.filter_report.specs.declared.Reading.{Reading}
 use Rattle.filter_report.specs.declared.Reading.the-variants.{All, AboveAt, NotANumberAt}
+use Rattle.filter_report.specs.Parts.{readingWithin, throughIn}
 use Rattle.filter_report.proofs.Within.{AllWithin, found-within}
 
 -- The answer to a list that is not empty and within its limit, and what stands on the page for it. Assumes nothing.

@@ -11,9 +11,10 @@ use native.Mathlib.Decide.{decLt}
 use native.Mathlib.Omega.{arith}
 use borrow.Author.Tests.{le-leb, lt-leb, eq-eqb, ne-eqb}
 use Rattle.filter_report.specs.Line.{lineOf, ends}
-use Rattle.filter_report.specs.Lines.{onto, linesOf, lineLength, Found, listed, aboveAt, wrongAt, foundBy, foundFrom, foundIn, readingFound, readingWithin, identifiersOf, faulty, faultAt}
+use Rattle.filter_report.specs.Lines.{onto, linesOf, Found, listed, aboveAt, wrongAt, foundBy, foundFrom, foundIn}
 use Rattle.filter_report.specs.declared.Line.{Line}
 use Rattle.filter_report.specs.declared.Line.the-variants.{Nothing, Identifier, Above, NotANumber}
+use Rattle.filter_report.specs.Parts.{lineLength, readingFound, readingWithin, identifiersOf, faulty, faultAt}
 use Rattle.filter_report.proofs.Scan.{at-place, past-end}
 
 -- A text by its lines: the first, up to its newline, and those behind it; and what is found in them, one line more at a time. Assumes nothing.

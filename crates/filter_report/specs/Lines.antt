@@ -1,15 +1,12 @@
 -- What a text says, line by line: its identifiers in order, or the first line at fault, counted from 1.
 -- Source: request #102; examples/README.md, "Lists".
-use Prim.Native.Nat.{ℕ, suc, _≤_}
-use mathlib.Core.Bool.{Bool, true, false, cond}
+use Prim.Native.Nat.{ℕ, suc}
+use mathlib.Core.Bool.{cond}
 use mathlib.Core.List.{List, [], _∷_}
 use lib.Dec.{eqb}
-use lib.ListN.{take}
 use Rattle.filter_report.specs.Line.{lineOf}
 use Rattle.filter_report.specs.declared.Line.{Line}
 use Rattle.filter_report.specs.declared.Line.the-variants.{Nothing, Identifier, Above, NotANumber}
-use Rattle.filter_report.specs.declared.Reading.{Reading}
-use Rattle.filter_report.specs.declared.Reading.the-variants.{All, AboveAt, NotANumberAt}
 
 -- the parts between newlines
 abbrev pub onto : ℕ → List (List ℕ) → List (List ℕ)
@@ -44,39 +41,3 @@ foundFrom limit k (line ∷ lines) = foundBy k (lineOf limit line) (foundFrom li
 
 unfoldable pub foundIn : ℕ → List ℕ → Found
 foundIn limit text = foundFrom limit 1 (linesOf text)
-
--- a reading, whose identifiers stand in the front of a list
-abbrev pub readingFound : Reading → List ℕ → Found
-readingFound (All count) list = listed (take count list)
-readingFound (AboveAt k) list = aboveAt k
-readingFound (NotANumberAt k) list = wrongAt k
-
--- its count is within a length, and its line's number is one of the longest text
-abbrev pub readingWithin : Reading → ℕ → Type 0
-readingWithin (All count) n = count ≤ n
-readingWithin (AboveAt k) n = k ≤ 65537
-readingWithin (NotANumberAt k) n = k ≤ 65537
-
--- how many characters stand before the first newline
-unfoldable pub lineLength : List ℕ → ℕ
-lineLength [] = 0
-lineLength (c ∷ text) = cond (eqb c 10) 0 (suc (lineLength text))
-
--- ---- a line by itself: its identifier, if any, and its fault
-abbrev pub identifiersOf : Line → List ℕ
-identifiersOf Nothing = []
-identifiersOf (Identifier n) = n ∷ []
-identifiersOf Above = []
-identifiersOf NotANumber = []
-
-abbrev pub faulty : Line → Bool
-faulty Nothing = false
-faulty (Identifier n) = false
-faulty Above = true
-faulty NotANumber = true
-
-abbrev pub faultAt : ℕ → Line → Reading
-faultAt k Nothing = NotANumberAt k
-faultAt k (Identifier n) = NotANumberAt k
-faultAt k Above = AboveAt k
-faultAt k NotANumber = NotANumberAt k

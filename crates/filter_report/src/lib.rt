@@ -8,8 +8,9 @@ ghost use Rattle.text.specs.Laying.{layingSaid};
 ghost use Rattle.identifiers.specs.Limits.{limitOf};
 ghost use Rattle.filter_list.specs.Answers.{firstAbove};
 ghost use Rattle.filter_report.specs.Line.{isBlank, ends as Line·ends, unblanked, digitOf, baseOf, judged as Line·judged, numberFrom, numberOf, isHex, wordOf, lineOf};
-ghost use Rattle.filter_report.specs.Lines.{lineLength, identifiersOf, faulty, faultAt, foundIn, readingFound, readingWithin};
-ghost use Rattle.filter_report.specs.Text.{textLimit, hexDigit, hexOf, throughIn, linesText, filterText, aboveText, faultText, listText, foundText, textOf};
+ghost use Rattle.filter_report.specs.Lines.{foundIn};
+ghost use Rattle.filter_report.specs.Text.{textLimit, hexDigit, hexOf, linesText, filterText, aboveText, faultText, listText, foundText, textOf};
+ghost use Rattle.filter_report.specs.Parts.{lineLength, identifiersOf, faulty, faultAt, readingFound, readingWithin, throughIn};
 use filter_list::Listing;
 use text::Laying;
 

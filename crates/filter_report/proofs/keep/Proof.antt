@@ -4,8 +4,8 @@ use mathlib.Core.List.{append-nil}
 use lib.ListN.{length, take}
 use native.Mathlib.Omega.{arith}
 use borrow.Author.Needs.{needs}
-use Rattle.filter_report.specs.Lines.{identifiersOf}
 use Rattle.filter_report.specs.declared.Line.{Line}
+use Rattle.filter_report.specs.Parts.{identifiersOf}
 use Rattle.filter_report.proofs.Split.{stored}
 use Rattle.filter_report.proofs.keep.Statement.{statement}
 use Rattle.filter_report.proofs.keep.Tie as tie

@@ -3,7 +3,7 @@ use Prim.Native.Nat.{_+_, _-_, _≤_}
 use mathlib.Core.Path.{_≡_, refl}
 use lib.ListN.{length, drop}
 use native.Mathlib.Omega.{arith}
-use Rattle.filter_report.specs.Lines.{lineLength}
+use Rattle.filter_report.specs.Parts.{lineLength}
 use Rattle.filter_report.proofs.Split.{end-here, end-later, end-last}
 use Rattle.filter_report.proofs.line_end.Statement.{statement}
 use Rattle.filter_report.proofs.line_end.Tie as tie

@@ -6,9 +6,10 @@ use lib.Seq.{length-take-le}
 use native.Mathlib.Omega.{arith}
 use borrow.Author.Needs.{needs}
 use Rattle.identifiers.specs.Limits.{limitOf}
-use Rattle.filter_report.specs.Lines.{listed, aboveAt, wrongAt, foundIn, readingFound}
+use Rattle.filter_report.specs.Lines.{listed, aboveAt, wrongAt, foundIn}
 use Rattle.filter_report.specs.Text.{listText, faultText, aboveText, wrongText, foundText}
 use Rattle.filter_report.specs.declared.Reading.{Reading}
+use Rattle.filter_report.specs.Parts.{readingFound}
 use Rattle.filter_report.proofs.Listed.{put-as, all-count, above-count, wrong-count, all-within}
 use Rattle.filter_report.proofs.put_read.Statement.{statement}
 use Rattle.filter_report.proofs.put_read.Tie as tie

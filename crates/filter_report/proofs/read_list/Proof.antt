@@ -3,8 +3,9 @@ use Prim.Native.Nat.{_+_, _-_, _*_, _≤_}
 use mathlib.Core.Path.{_≡_, refl, sym, ap, _∙_}
 use lib.ListN.{length, take}
 use native.Mathlib.Omega.{arith}
-use Rattle.filter_report.specs.Lines.{foundFrom, foundIn, readingFound}
+use Rattle.filter_report.specs.Lines.{foundFrom, foundIn}
 use Rattle.filter_report.specs.declared.Reading.{Reading}
+use Rattle.filter_report.specs.Parts.{readingFound}
 use Rattle.filter_report.proofs.Split.{linesFrom, behind, found-start, found-end, fault-within, identifiers-fit, turn-kept, turn-fault, ends-within}
 use Rattle.filter_report.proofs.read_list.Statement.{statement}
 use Rattle.filter_report.proofs.read_list.Tie as tie
