@@ -22,7 +22,8 @@ each-of P (suc n) f every x m =
       | inr rest ↦ each-of P n (λ i. f (suc i)) (λ i l. every (suc i) (omega arith)) x rest
     ]
 
-kinds-given : (s : List ℕ) (sections : Sections) → readOf s ≡ gives sections → (filter : Filter) → List·Memᴰ filter (filtersOf s sections) → filter .kind ≤ 1
+kinds-given : (s : List ℕ) (sections : Sections) → readOf s ≡ gives sections
+    → (filter : Filter) → List·Memᴰ filter (filtersOf s sections) → filter .kind ≤ 1
 kinds-given s sections e =
     let good = read-good s sections e in
     each-of (λ (filter : Filter). filter .kind ≤ 1) (sections .filters) (λ i. filterAt s (sections .«filters_start» + filterBytes * i))

@@ -27,7 +27,9 @@ use Rattle.file_report.specs.declared.Filters.{Filters}
 
 -- ---- a filter is read
 mask-at : (s : List ℕ) (at : ℕ) → pack (bytes 4) (part s (at + 4) 4) ≡ maskIn (part s at 8)
-mask-at s at = ap (pack (bytes 4)) (tabulate-same 4 (λ i. getD s (at + 4 + i) 0) (λ i. getD s (at + (4 + i)) 0) (λ i. ap (λ (k : ℕ). getD s k 0) (add-assoc at 4 i)))
+mask-at s at =
+    ap (pack (bytes 4))
+    (tabulate-same 4 (λ i. getD s (at + 4 + i) 0) (λ i. getD s (at + (4 + i)) 0) (λ i. ap (λ (k : ℕ). getD s k 0) (add-assoc at 4 i)))
 
 pub words-read : (s : List ℕ) (at place code mask : ℕ) → at ≡ place → at + filterBytes ≤ length s
     → (code ≡ pack (bytes 4) (partOrZeros 4 (at + 1) s)) × (code < 2 ^ 32)
@@ -87,7 +89,8 @@ row-shown s held start i at shown e h =
     ap (verdictsBy (held .count) (held .kinds) (held .codes) (held .masks)) (h ∙ ap (λ (k : ℕ). showOf (part s k frameBytes)) e)
 
 module _ (s : List ℕ) (sections : Sections) (held : Filters) (holds : Holds s sections held) where
-  row-is : (frame : List ℕ) → verdictsBy (held .count) (held .kinds) (held .codes) (held .masks) (showOf frame) ≡ map (accepts frame) (filtersOf s sections)
+  row-is : (frame : List ℕ) → verdictsBy (held .count) (held .kinds) (held .codes) (held .masks) (showOf frame)
+      ≡ map (accepts frame) (filtersOf s sections)
   unfolding verdictsBy
   row-is frame =
       ap (λ (n : ℕ). tabulate n (verdictBy (held .kinds) (held .codes) (held .masks) (showOf frame))) (holds .as-many)
@@ -102,7 +105,8 @@ module _ (s : List ℕ) (sections : Sections) (held : Filters) (holds : Holds s 
       tabulate-same (sections .frames) (rowBy s held (sections .«frames_start»))
       (λ i. map (accepts (part s (sections .«frames_start» + frameBytes * i) frameBytes)) (filtersOf s sections))
       (λ i. row-is (part s (sections .«frames_start» + frameBytes * i) frameBytes))
-      ∙ sym (map-tabulate (λ frame. map (accepts frame) (filtersOf s sections)) (sections .frames) (λ i. part s (sections .«frames_start» + frameBytes * i) frameBytes))
+      ∙ sym (map-tabulate (λ frame. map (accepts frame) (filtersOf s sections)) (sections .frames)
+      (λ i. part s (sections .«frames_start» + frameBytes * i) frameBytes))
 
   -- the text of a file that is read
   pub text-read : readOf s ≡ gives sections → textOf s ≡ goodText (rowsBy s held sections)

@@ -35,7 +35,9 @@ module _ (verdict : ℕ → Bool) where
       ∙ ap marks (sym (tabulate-snoc i verdict)) ∙ ap (λ (k : ℕ). marks (tabulate k verdict)) (sym (add-one i)))
 
   any-more : (i : ℕ) → (verdict i || any (tabulate i verdict)) ≡ any (tabulate (i + 1) verdict)
-  any-more i = sym (any-snoc (tabulate i verdict) (verdict i)) ∙ ap any (sym (tabulate-snoc i verdict)) ∙ ap (λ (k : ℕ). any (tabulate k verdict)) (sym (add-one i))
+  any-more i =
+      sym (any-snoc (tabulate i verdict) (verdict i)) ∙ ap any (sym (tabulate-snoc i verdict))
+      ∙ ap (λ (k : ℕ). any (tabulate k verdict)) (sym (add-one i))
 
   pub any-turn : (i : ℕ) (hit before next : Bool) → hit ≡ verdict i → next ≡ (hit || before) → before ≡ any (tabulate i verdict)
       → next ≡ any (tabulate (i + 1) verdict)
@@ -55,7 +57,8 @@ any-hit verdict (suc i) (suc n) l e = by (verdict 0) (any-hit (λ k. verdict (su
     by false h = h
 
 -- ---- a line
-module _ (row : List Bool) (n index at p : ℕ) (out one : List ℕ) (wide : length row ≡ n) (ep : p ≡ at + length (decimal index)) (eo : one ≡ laid at (decimal index) out) where
+module _ (row : List Bool) (n index at p : ℕ) (out one : List ℕ) (wide : length row ≡ n)
+    (ep : p ≡ at + length (decimal index)) (eo : one ≡ laid at (decimal index) out) where
   space : p < length out → set one p 32 ≡ laid at (decimal index ++ (32 ∷ [])) out
   space h = ap (λ (l : List ℕ). set l p 32) eo ∙ set-then p 32 at (decimal index) out ep h
 
@@ -73,11 +76,13 @@ module _ (row : List Bool) (n index at p : ℕ) (out one : List ℕ) (wide : len
       (omega (arith, to-space, length-append (decimal index ++ (32 ∷ [])) (45 ∷ []))) (omega arith)
       ∙ ap (λ (l : List ℕ). laid at l out) j
 
-  pub line-some : (n ≡ 0 → ⊥) → (now : List ℕ) → at + (length (decimal index) + 2 + n) ≤ length out → now ≡ laid (p + 1) (marks row) (set one p 32)
+  pub line-some : (n ≡ 0 → ⊥) → (now : List ℕ) → at + (length (decimal index) + 2 + n) ≤ length out
+      → now ≡ laid (p + 1) (marks row) (set one p 32)
       → set now (p + 1 + n) 10 ≡ laid at (lineOf index row) out
   unfolding lineOf
   line-some ne now h en =
-      let j : ((decimal index ++ (32 ∷ [])) ++ marks row) ++ (10 ∷ []) ≡ lineOf index row = rw (marks-some row (λ e. ne (sym wide ∙ e))) (simp append-assoc) in
+      let j : ((decimal index ++ (32 ∷ [])) ++ marks row) ++ (10 ∷ []) ≡ lineOf index row
+      = rw (marks-some row (λ e. ne (sym wide ∙ e))) (simp append-assoc) in
       ap (λ (l : List ℕ). set l (p + 1 + n) 10)
       (en ∙ ap (λ (l : List ℕ). laid (p + 1) (marks row) l) (space (omega arith))
       ∙ laid-then (p + 1) at (decimal index ++ (32 ∷ [])) (marks row) out to-space (omega arith))

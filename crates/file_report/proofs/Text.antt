@@ -20,7 +20,8 @@ mark-long false = refl
 pub marks-snoc : (row : List Bool) (last : Bool) → marks (row ++ (last ∷ [])) ≡ marks row ++ markOf last
 unfolding marks
 marks-snoc [] last = append-nil (markOf last)
-marks-snoc (first ∷ row) last = ap (λ (l : List ℕ). markOf first ++ l) (marks-snoc row last) ∙ sym (append-assoc (markOf first) (marks row) (markOf last))
+marks-snoc (first ∷ row) last =
+    ap (λ (l : List ℕ). markOf first ++ l) (marks-snoc row last) ∙ sym (append-assoc (markOf first) (marks row) (markOf last))
 
 pub marks-long : (row : List Bool) → length (marks row) ≡ length row
 unfolding marks
@@ -67,7 +68,8 @@ unfolding lineOf
 line-long index row = simp length-append (omega (arith, width-long row))
 
 -- ---- lines and counts
-lines-snoc : (index : ℕ) (rows : List (List Bool)) (last : List Bool) → linesFrom index (rows ++ (last ∷ [])) ≡ linesFrom index rows ++ lineOf (index + length rows) last
+lines-snoc : (index : ℕ) (rows : List (List Bool)) (last : List Bool)
+    → linesFrom index (rows ++ (last ∷ [])) ≡ linesFrom index rows ++ lineOf (index + length rows) last
 unfolding linesFrom
 lines-snoc index [] last =
     let e : index + 0 ≡ index = omega arith in

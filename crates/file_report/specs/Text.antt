@@ -7,12 +7,14 @@ use lib.ListN.{getD}
 use Rattle.laws.specs.Ascii.{ascii}
 use Rattle.laws.specs.Said.{Said, refuses, gives}
 use Rattle.laws.specs.Tabulate.{tabulate, part}
+use Rattle.refusals.specs.Table.{inOne}
 use Rattle.text.specs.Decimal.{decimal}
 use Rattle.file_reading.specs.Format.{filterBytes, frameBytes}
 use Rattle.file_reading.specs.declared.Sections.{Sections}
 use Rattle.file_reading.specs.Reader.{readOf}
 use Rattle.filter_matcher.specs.Words.{matchOf}
 
+-- a filter of a file
 pub record Filter : Type 0 where
   pub kind : ℕ
   pub registers : List ℕ
@@ -69,16 +71,18 @@ unfoldable pub countOf : List (List Bool) → ℕ
 countOf [] = 0
 countOf (row ∷ rows) = cond (any row) 1 0 + countOf rows
 
+-- the lines, and the number of frames that some filter accepts
 unfoldable pub goodText : List (List Bool) → List ℕ
 goodText rows = linesFrom 0 rows ++ (ascii "accepted " ++ (decimal (countOf rows) ++ ascii "\n"))
 
--- a refusal's number, and the one number that it carries
+-- a refusal's number, and where it is
 unfoldable pub badText : ℕ → ℕ → List ℕ
 badText number place = ascii "refused " ++ (decimal number ++ (ascii " at " ++ (decimal place ++ ascii "\n")))
 
+-- by what the reader answers
 abbrev pub readText : List ℕ → Said Sections → List ℕ
 readText s (gives sections) = goodText (rowsOf (filtersOf s sections) (framesOf s sections))
-readText s (refuses number place) = badText number place
+readText s (refuses number carried) = badText number (inOne carried)
 
 unfoldable pub textOf : List ℕ → List ℕ
 textOf s = readText s (readOf s)

@@ -107,7 +107,8 @@ fn put_marks(
 ) -> bool
     requires { ⌜ (filters ≤ filterLimit) × (at + filters ≤ length (now out)) ⌝ }
     ensures { λ r. ⌜ (r ≡ any (verdictsBy filters (now (kinds .entry)) (now (codes .entry)) (now (masks .entry)) shown))
-        × (now (out .exit) ≡ laid at (marks (verdictsBy filters (now (kinds .entry)) (now (codes .entry)) (now (masks .entry)) shown)) (now (out .entry))) ⌝ }
+        × (now (out .exit)
+        ≡ laid at (marks (verdictsBy filters (now (kinds .entry)) (now (codes .entry)) (now (masks .entry)) shown)) (now (out .entry))) ⌝ }
 {
     let mut any = false;
     let mut i: usize = 0;
@@ -139,7 +140,8 @@ fn put_line(
     requires { ⌜ (filters ≤ filterLimit) × (at + lineLength filters index ≤ length (now out)) ⌝ }
     ensures { λ r. ⌜ (r .end ≡ at + lineLength filters index)
         × (r .any ≡ any (verdictsBy filters (now (kinds .entry)) (now (codes .entry)) (now (masks .entry)) shown))
-        × (now (out .exit) ≡ laid at (lineOf index (verdictsBy filters (now (kinds .entry)) (now (codes .entry)) (now (masks .entry)) shown)) (now (out .entry))) ⌝ }
+        × (now (out .exit)
+        ≡ laid at (lineOf index (verdictsBy filters (now (kinds .entry)) (now (codes .entry)) (now (masks .entry)) shown)) (now (out .entry))) ⌝ }
 {
     let space = text::put_decimal(out, at, index);
     out[space] = b' ';
@@ -293,7 +295,9 @@ fn report_good(file: &[u8], filters: Filters, sections: Sections, out: &mut [u8]
         × (sections .«frames_start» + frameBytes * sections .frames ≤ length (now file))
         × (sections .frames ≤ frameLimit) ⌝ }
     ensures { λ r. ⌜ (layingSaid r ≡ laying (goodText (rowsBy (now (file .entry)) filters sections)) (now (out .entry)))
-        × (now (out .exit) ≡ written (laying (goodText (rowsBy (now (file .entry)) filters sections)) (now (out .entry))) (goodText (rowsBy (now (file .entry)) filters sections)) (now (out .entry))) ⌝ }
+        × (now (out .exit)
+        ≡ written (laying (goodText (rowsBy (now (file .entry)) filters sections)) (now (out .entry)))
+        (goodText (rowsBy (now (file .entry)) filters sections)) (now (out .entry))) ⌝ }
 {
     let lines = lines_length(filters.count, sections.frames);
     if lines + 14 <= out.len() {

@@ -6,9 +6,8 @@ use Rattle.laws.specs.Tabulate.{tabulate}
 use Rattle.file_reading.specs.Format.{frameBytes}
 use Rattle.file_report.specs.Text.{countOf}
 use Rattle.file_report.specs.Held.{rowBy}
-use Rattle.file_report.proofs.Text.{count-most}
-use Rattle.file_report.proofs.Held.{row-long, row-shown}
-use Rattle.file_report.proofs.Frames.{count-none, count-turn}
+use Rattle.file_report.proofs.Held.{row-shown}
+use Rattle.file_report.proofs.Frames.{count-none, count-turn, count-few}
 use Rattle.file_report.proofs.accepted.Statement.{statement}
 use Rattle.file_report.proofs.accepted.Tie as tie
 
@@ -22,7 +21,7 @@ abbrev μ-loop : tie.MeasureT-loop
 loop-holds : tie.Need-loop-holds Inv-loop μ-loop
 loop-holds c =
     let args = c .before .before .before .before .args in
-    (omega arith, omega arith, count-none (args .filters .count) (rowBy (args .file .now) (args .filters) (args .sections .«frames_start»)) (row-long (args .file .now) (args .filters) (args .sections .«frames_start»)))
+    (omega arith, omega arith, count-none (args .file .now) (args .filters) (args .sections .«frames_start»))
 
 shown-at-requires : tie.Need-shown-at-requires Inv-loop μ-loop
 shown-at-requires c κs = omega arith
@@ -34,7 +33,7 @@ counted-requires : tie.Need-counted-requires Inv-loop μ-loop
 counted-requires c κs =
     let turn = c .before .before .before .before .before .before .before in
     let args = turn .before .before .before .before .before .args in
-    omega (arith, count-most (args .filters .count) (rowBy (args .file .now) (args .filters) (args .sections .«frames_start»)) (row-long (args .file .now) (args .filters) (args .sections .«frames_start»)) (turn .loop .i))
+    omega (arith, count-few (args .file .now) (args .filters) (args .sections .«frames_start») (turn .loop .i))
 
 add-frame : tie.Need-add-frame Inv-loop μ-loop
 add-frame c = omega arith
@@ -49,10 +48,12 @@ loop-again : tie.Need-loop-again Inv-loop μ-loop
 loop-again c =
     let turn = c .before .before .before .before .before .before .before .before in
     let args = turn .before .before .before .before .before .args in
-    let here = row-shown (args .file .now) (args .filters) (args .sections .«frames_start») (turn .loop .i) (turn .loop .frame) _ (turn .loop .inv .1) (c .before .before .before .before .before .shown-at .ensures) in (
+    let here = row-shown (args .file .now) (args .filters) (args .sections .«frames_start») (turn .loop .i) (turn .loop .frame) _
+    (turn .loop .inv .1) (c .before .before .before .before .before .shown-at .ensures) in (
       omega arith,
       omega arith,
-      count-turn (args .filters .count) (rowBy (args .file .now) (args .filters) (args .sections .«frames_start»)) (row-long (args .file .now) (args .filters) (args .sections .«frames_start»)) (turn .loop .i) _ _ _ _ here (turn .loop .inv .2) (c .before .any-accepts .ensures) (c .counted .ensures),
+      count-turn (args .file .now) (args .filters) (args .sections .«frames_start») (turn .loop .i) _ _ _ _ here (turn .loop .inv .2)
+          (c .before .any-accepts .ensures) (c .counted .ensures),
     )
 
 returns : tie.Need-returns Inv-loop μ-loop

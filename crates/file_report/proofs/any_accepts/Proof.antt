@@ -20,7 +20,8 @@ abbrev μ-loop : tie.MeasureT-loop
 loop-holds : tie.Need-loop-holds Inv-loop μ-loop
 loop-holds c =
     let args = c .args in
-    (omega arith, any-none (verdictBy (args .kinds .now) (args .codes .now) (args .masks .now) (args .shown)))
+    let verdict = verdictBy (args .kinds .now) (args .codes .now) (args .masks .now) (args .shown) in
+    (omega arith, any-none verdict)
 
 element-copy-out-accepts : tie.Need-element-copy-out-accepts Inv-loop μ-loop
 element-copy-out-accepts c = omega arith
@@ -45,7 +46,9 @@ unfolding verdictsBy
 returns c =
     let turn = c .before .before .before .before .before .before in
     let args = turn .before .args in
-    any-hit (verdictBy (args .kinds .now) (args .codes .now) (args .masks .now) (args .shown)) (turn .loop .i) (args .filters) (c .before .before .before .before .before .loop-test .taken) (sym (c .before .accepts .ensures) ∙ c .if1 .taken)
+    let verdict = verdictBy (args .kinds .now) (args .codes .now) (args .masks .now) (args .shown) in
+    any-hit verdict (turn .loop .i) (args .filters) (c .before .before .before .before .before .loop-test .taken)
+    (sym (c .before .accepts .ensures) ∙ c .if1 .taken)
 
 add-i : tie.Need-add-i Inv-loop μ-loop
 add-i c = omega arith
@@ -57,7 +60,8 @@ loop-again : tie.Need-loop-again Inv-loop μ-loop
 loop-again c =
     let turn = c .before .before .before .before .before .before in
     let args = turn .before .args in
-    (omega arith, none-turn (verdictBy (args .kinds .now) (args .codes .now) (args .masks .now) (args .shown)) (turn .loop .i) (sym (c .before .accepts .ensures) ∙ c .if1 .left) (turn .loop .inv .1))
+    let verdict = verdictBy (args .kinds .now) (args .codes .now) (args .masks .now) (args .shown) in
+    (omega arith, none-turn verdict (turn .loop .i) (sym (c .before .accepts .ensures) ∙ c .if1 .left) (turn .loop .inv .1))
 
 returns-2 : tie.Need-returns-2 Inv-loop μ-loop
 unfolding verdictsBy

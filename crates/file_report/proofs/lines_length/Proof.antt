@@ -38,7 +38,13 @@ loop-less : tie.Need-loop-less Inv-loop μ-loop
 loop-less c = omega arith
 
 loop-again : tie.Need-loop-again Inv-loop μ-loop
-loop-again c = (omega arith, omega (arith, long-turn (c .before .before .before .before .args .filters) (c .before .before .loop .i), c .digits .ensures .0, c .before .before .before .width .ensures .0, c .before .before .loop .inv .1), omega (arith, c .digits .ensures .1, c .before .before .before .width .ensures .1))
+loop-again c =
+    let turn = c .before .before in
+    let width = turn .before .width in (
+      omega arith,
+      omega (arith, long-turn (turn .before .before .args .filters) (turn .loop .i), c .digits .ensures .0, width .ensures .0, turn .loop .inv .1),
+      omega (arith, c .digits .ensures .1, width .ensures .1),
+    )
 
 returns : tie.Need-returns Inv-loop μ-loop
 returns c =

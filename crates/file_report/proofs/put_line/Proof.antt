@@ -68,10 +68,13 @@ returns c =
     let put = c .before .before .before in
     let args = put .before .before .before .args in
     let place = place-put (args .at) _ (decimal (args .index)) (args .out .now) (put .put-decimal .ensures .0) (omega arith) in
-    let none = width-none (args .filters) (c .if1 .taken) in (
+    let none = width-none (args .filters) (c .if1 .taken) in
+    let row = verdictsBy (args .filters) (args .kinds .now) (args .codes .now) (args .masks .now) (args .shown) in
+    let wide = verdicts-long (args .filters) (args .kinds .now) (args .codes .now) (args .masks .now) (args .shown) in
+    let laid = text-put (args .at) (decimal (args .index)) (args .out .now) _ (put .put-decimal .ensures .1) (omega arith) in (
       omega (arith, place, none),
       rw (c .if1 .taken) (any-none (verdictBy (args .kinds .now) (args .codes .now) (args .masks .now) (args .shown))),
-      line-none (verdictsBy (args .filters) (args .kinds .now) (args .codes .now) (args .masks .now) (args .shown)) (args .filters) (args .index) (args .at) _ (args .out .now) _ (verdicts-long (args .filters) (args .kinds .now) (args .codes .now) (args .masks .now) (args .shown)) place (text-put (args .at) (decimal (args .index)) (args .out .now) _ (put .put-decimal .ensures .1) (omega arith)) (c .if1 .taken) (omega (arith, none)),
+      line-none row (args .filters) (args .index) (args .at) _ (args .out .now) _ wide place laid (c .if1 .taken) (omega (arith, none)),
     )
 
 put-marks-requires : tie.Need-put-marks-requires
@@ -105,17 +108,23 @@ add-t23 c =
     omega (arith, place, put .put-decimal .kept .0)
 
 same-length-2 : tie.Need-same-length-2
-same-length-2 c = simp length-set (simp length-set at (c .before .before .put-marks .kept .1 .1 .1 .1 .1 .0) ∙ c .before .before .before .before .before .before .before .put-decimal .kept .0)
+same-length-2 c =
+    let marks = c .before .before .put-marks in
+    simp length-set (simp length-set at (marks .kept .1 .1 .1 .1 .1 .0) ∙ c .before .before .before .before .before .before .before .put-decimal .kept .0)
 
 returns-2 : tie.Need-returns-2
 returns-2 c =
     let put = c .before .before .before .before .before .before .before in
     let args = put .before .before .before .args in
     let place = place-put (args .at) _ (decimal (args .index)) (args .out .now) (put .put-decimal .ensures .0) (omega arith) in
-    let some = width-some (args .filters) (c .before .before .before .before .if1 .left) in (
+    let some = width-some (args .filters) (c .before .before .before .before .if1 .left) in
+    let row = verdictsBy (args .filters) (args .kinds .now) (args .codes .now) (args .masks .now) (args .shown) in
+    let wide = verdicts-long (args .filters) (args .kinds .now) (args .codes .now) (args .masks .now) (args .shown) in
+    let laid = text-put (args .at) (decimal (args .index)) (args .out .now) _ (put .put-decimal .ensures .1) (omega arith) in (
       omega (arith, place, some),
       c .before .before .put-marks .ensures .0,
-      line-some (verdictsBy (args .filters) (args .kinds .now) (args .codes .now) (args .masks .now) (args .shown)) (args .filters) (args .index) (args .at) _ (args .out .now) _ (verdicts-long (args .filters) (args .kinds .now) (args .codes .now) (args .masks .now) (args .shown)) place (text-put (args .at) (decimal (args .index)) (args .out .now) _ (put .put-decimal .ensures .1) (omega arith)) (c .before .before .before .before .if1 .left) _ (omega (arith, some)) (c .before .before .put-marks .ensures .1),
+      line-some row (args .filters) (args .index) (args .at) _ (args .out .now) _ wide place laid
+          (c .before .before .before .before .if1 .left) _ (omega (arith, some)) (c .before .before .put-marks .ensures .1),
     )
 
 pub put-line-spec : {M : Type 1} → statement M

@@ -9,9 +9,8 @@ use Rattle.file_reading.specs.Format.{frameBytes}
 use Rattle.file_report.specs.Text.{linesFrom, countOf}
 use Rattle.file_report.specs.Length.{linesLength}
 use Rattle.file_report.specs.Held.{rowBy}
-use Rattle.file_report.proofs.Text.{count-most}
-use Rattle.file_report.proofs.Held.{row-long, row-shown}
-use Rattle.file_report.proofs.Frames.{long-none, long-turn, line-room, lines-none, lines-turn, count-none, count-turn}
+use Rattle.file_report.proofs.Held.{row-shown}
+use Rattle.file_report.proofs.Frames.{long-none, long-turn, line-room, lines-none, lines-turn, count-none, count-turn, count-few}
 use Rattle.file_report.proofs.put_lines.Statement.{statement}
 use Rattle.file_report.proofs.put_lines.Tie as tie
 
@@ -29,8 +28,14 @@ abbrev μ-loop : tie.MeasureT-loop
 
 loop-holds : tie.Need-loop-holds Inv-loop μ-loop
 loop-holds c =
-    let args = c .before .before .before .before .before .args in
-    (omega arith, omega arith, long-none (args .filters .count), count-none (args .filters .count) (rowBy (args .file .now) (args .filters) (args .sections .«frames_start»)) (row-long (args .file .now) (args .filters) (args .sections .«frames_start»)), lines-none (args .filters .count) (rowBy (args .file .now) (args .filters) (args .sections .«frames_start»)) (row-long (args .file .now) (args .filters) (args .sections .«frames_start»)) (args .out .now), refl)
+    let args = c .before .before .before .before .before .args in (
+      omega arith,
+      omega arith,
+      long-none (args .filters .count),
+      count-none (args .file .now) (args .filters) (args .sections .«frames_start»),
+      lines-none (args .file .now) (args .filters) (args .sections .«frames_start») (args .out .now),
+      refl,
+    )
 
 shown-at-requires : tie.Need-shown-at-requires Inv-loop μ-loop
 shown-at-requires c κs = omega arith
@@ -45,7 +50,7 @@ counted-requires : tie.Need-counted-requires Inv-loop μ-loop
 counted-requires c κs =
     let turn = c .before .before .before .before .before .before .before .before .before .before in
     let args = turn .before .before .before .before .before .before .args in
-    omega (arith, count-most (args .filters .count) (rowBy (args .file .now) (args .filters) (args .sections .«frames_start»)) (row-long (args .file .now) (args .filters) (args .sections .«frames_start»)) (turn .loop .i))
+    omega (arith, count-few (args .file .now) (args .filters) (args .sections .«frames_start») (turn .loop .i))
 
 add-frame : tie.Need-add-frame Inv-loop μ-loop
 add-frame c = omega arith
@@ -60,13 +65,16 @@ loop-again : tie.Need-loop-again Inv-loop μ-loop
 loop-again c =
     let turn = c .before .before .before .before .before .before .before .before .before .before .before in
     let args = turn .before .before .before .before .before .before .args in
-    let here = row-shown (args .file .now) (args .filters) (args .sections .«frames_start») (turn .loop .i) (turn .loop .frame) _ (turn .loop .inv .1) (c .before .before .before .before .before .before .before .before .shown-at .ensures) in
+    let here = row-shown (args .file .now) (args .filters) (args .sections .«frames_start») (turn .loop .i) (turn .loop .frame) _
+    (turn .loop .inv .1) (c .before .before .before .before .before .before .before .before .shown-at .ensures) in
     let line = c .before .before .before .put-line in (
       omega arith,
       omega arith,
       line .ensures .0 ∙ rw (turn .loop .inv .2) (sym (long-turn (args .filters .count) (turn .loop .i))),
-      count-turn (args .filters .count) (rowBy (args .file .now) (args .filters) (args .sections .«frames_start»)) (row-long (args .file .now) (args .filters) (args .sections .«frames_start»)) (turn .loop .i) _ _ _ _ here (turn .loop .inv .3) (line .ensures .1) (c .counted .ensures),
-      lines-turn (args .filters .count) (rowBy (args .file .now) (args .filters) (args .sections .«frames_start»)) (row-long (args .file .now) (args .filters) (args .sections .«frames_start»)) (turn .loop .i) (turn .loop .at) _ (args .out .now) _ _ (turn .loop .inv .2) here (turn .loop .inv .4) (line .ensures .2),
+      count-turn (args .file .now) (args .filters) (args .sections .«frames_start») (turn .loop .i) _ _ _ _
+          here (turn .loop .inv .3) (line .ensures .1) (c .counted .ensures),
+      lines-turn (args .file .now) (args .filters) (args .sections .«frames_start») (turn .loop .i) (turn .loop .at) _ (args .out .now) _ _
+          (turn .loop .inv .2) here (turn .loop .inv .4) (line .ensures .2),
       line .kept .1 .1 .1 .1 .1 .1 .0 ∙ turn .loop .inv .5,
     )
 

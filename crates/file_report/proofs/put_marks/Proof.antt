@@ -25,7 +25,8 @@ abbrev μ-loop : tie.MeasureT-loop
 loop-holds : tie.Need-loop-holds Inv-loop μ-loop
 loop-holds c =
     let args = c .before .args in
-    (omega arith, put-none (verdictBy (args .kinds .now) (args .codes .now) (args .masks .now) (args .shown)) (args .at) (args .out .now), any-none (verdictBy (args .kinds .now) (args .codes .now) (args .masks .now) (args .shown)), refl)
+    let verdict = verdictBy (args .kinds .now) (args .codes .now) (args .masks .now) (args .shown) in
+    (omega arith, put-none verdict (args .at) (args .out .now), any-none verdict, refl)
 
 element-copy-out-accepts : tie.Need-element-copy-out-accepts Inv-loop μ-loop
 element-copy-out-accepts c = omega arith
@@ -67,10 +68,11 @@ loop-again : tie.Need-loop-again Inv-loop μ-loop
 loop-again c =
     let turn = c .before .before .before .before .before .before .before in
     let args = turn .before .before .args in
+    let verdict = verdictBy (args .kinds .now) (args .codes .now) (args .masks .now) (args .shown) in
     let is = c .before .before .accepts .ensures in (
       omega arith,
-      mark-turn (verdictBy (args .kinds .now) (args .codes .now) (args .masks .now) (args .shown)) (turn .loop .i) (args .at) _ _ _ (args .out .now) is (c .before .mark .ensures) (turn .loop .inv .1) (omega arith),
-      any-turn (verdictBy (args .kinds .now) (args .codes .now) (args .masks .now) (args .shown)) (turn .loop .i) _ _ _ is (c .either .ensures) (turn .loop .inv .2),
+      mark-turn verdict (turn .loop .i) (args .at) _ _ _ (args .out .now) is (c .before .mark .ensures) (turn .loop .inv .1) (omega arith),
+      any-turn verdict (turn .loop .i) _ _ _ is (c .either .ensures) (turn .loop .inv .2),
       simp length-set (turn .loop .inv .3),
     )
 

@@ -69,10 +69,12 @@ loop-again c =
     let turn = c .before .before .before .before in
     let args = turn .before .before .args in
     let held = turn .loop .inv in
-    let here = words-read (args .file .now) (turn .loop .at) (args .sections .«filters_start» + filterBytes * turn .loop .i) _ _ (held .1) (omega arith) (c .before .word-at .ensures) (c .word-at2 .ensures) in (
+    let here = words-read (args .file .now) (turn .loop .at) (args .sections .«filters_start» + filterBytes * turn .loop .i) _ _
+    (held .1) (omega arith) (c .before .word-at .ensures) (c .word-at2 .ensures) in (
       omega arith,
       omega arith,
-      words-turn (args .file .now) (args .sections .«filters_start») (turn .loop .i) (turn .loop .kinds) (turn .loop .codes) (turn .loop .masks) _ _ _ (held .2) here (omega arith) (omega arith) (omega arith),
+      words-turn (args .file .now) (args .sections .«filters_start») (turn .loop .i) (turn .loop .kinds) (turn .loop .codes) (turn .loop .masks) _ _ _
+          (held .2) here (omega arith) (omega arith) (omega arith),
       simp length-set (held .3),
       simp length-set (held .4),
       simp length-set (held .5),

@@ -17,12 +17,16 @@ enum-known-reading c = search needs
 
 read-filters-requires : tie.Need-read-filters-requires
 read-filters-requires c κs =
-    let room = within (c .before .before .before .before .before .before .args .file .now) _ (sym (c .before .before .before .read-file .ensures) ∙ ap readingSaid (c .before .reading .given .1)) in
+    let known = c .before in
+    let read = sym (known .before .before .read-file .ensures) ∙ ap readingSaid (known .reading .given .1) in
+    let room = within (known .before .before .before .before .before .args .file .now) _ read in
     (room .0, room .1)
 
 report-good-requires : tie.Need-report-good-requires
 report-good-requires c κs =
-    let room = within (c .before .before .before .before .before .before .before .before .args .file .now) _ (sym (c .before .before .before .before .before .read-file .ensures) ∙ ap readingSaid (c .before .before .before .reading .given .1)) in
+    let known = c .before .before .before in
+    let read = sym (known .before .before .read-file .ensures) ∙ ap readingSaid (known .reading .given .1) in
+    let room = within (known .before .before .before .before .before .args .file .now) _ read in
     (omega (arith, room .0, c .before .read-filters .ensures .as-many), room .2, room .3)
 
 enum-known-reading-2 : tie.Need-enum-known-reading-2
@@ -45,17 +49,23 @@ same-length c = search needs
 
 returns : tie.Need-returns
 returns c =
-    let args = c .before .before .before .before .before .before .before .before .before .before .before .args in
-    same-text _ _ (args .out .now) _ _ (text-read (args .file .now) _ _ (c .before .before .before .before .read-filters .ensures) (sym (c .before .before .before .before .before .before .before .before .read-file .ensures) ∙ ap readingSaid (c .before .before .before .before .before .before .reading .given .1))) (c .before .before .report-good .ensures)
+    let known = c .before .before .before .before .before .before in
+    let read = sym (known .before .before .read-file .ensures) ∙ ap readingSaid (known .reading .given .1) in
+    let args = known .before .before .before .before .before .args in
+    same-text _ _ (args .out .now) _ _ (text-read (args .file .now) _ _ (c .before .before .before .before .read-filters .ensures) read)
+    (c .before .before .report-good .ensures)
 
 same-length-2 : tie.Need-same-length-2
 same-length-2 c = search needs
 
 returns-2 : tie.Need-returns-2
 returns-2 c =
-    let args = c .before .before .before .before .before .before .before .before .before .before .before .before .args in
+    let known = c .before .before .before .before .before .before .before in
+    let read = sym (known .before .before .read-file .ensures) ∙ ap readingSaid (known .reading2 .given .1) in
+    let args = known .before .before .before .before .before .args in
+    let refused = text-refused (args .file .now) _ read in
     same-text _ _ (args .out .now) _ _
-    (text-refused (args .file .now) _ (sym (c .before .before .before .before .before .before .before .before .before .read-file .ensures) ∙ ap readingSaid (c .before .before .before .before .before .before .before .reading2 .given .1)) ∙ ap₂ badText (sym (c .before .before .before .before .before .number .ensures)) (sym (c .before .before .before .before .carried .ensures)))
+    (refused ∙ ap₂ badText (sym (c .before .before .before .before .before .number .ensures)) (sym (c .before .before .before .before .carried .ensures)))
     (c .before .before .report-bad .ensures)
 
 pub report-spec : {M : Type 1} → statement M

@@ -5,11 +5,8 @@ use lib.ListN.{length, length-set}
 use native.Mathlib.Omega.{arith}
 use borrow.Author.Needs.{needs}
 use Rattle.laws.proofs.Laid.{laying-short, laying-fits}
-use Rattle.text.specs.Decimal.{decimal}
-use Rattle.text.proofs.Put.{place-put, text-put}
-use Rattle.laws.specs.Ascii.{ascii}
 use Rattle.file_report.specs.Text.{badText}
-use Rattle.file_report.proofs.Frames.{bad-long, bad-put}
+use Rattle.file_report.proofs.Frames.{bad-long, bad-room, bad-put}
 use Rattle.file_report.proofs.report_bad.Statement.{statement}
 use Rattle.file_report.proofs.report_bad.Tie as tie
 
@@ -32,7 +29,10 @@ add-needed-4 : tie.Need-add-needed-4
 add-needed-4 c = search needs
 
 returns : tie.Need-returns
-returns c = laying-short (badText (c .before .before .before .before .args .number) (c .before .before .before .before .args .place)) (c .before .before .before .before .args .out .now) _ (omega (arith, bad-long (c .before .before .before .before .args .number) (c .before .before .before .before .args .place), c .before .before .digits .ensures .0, c .before .digits2 .ensures .0)) (c .if1 .taken)
+returns c =
+    let args = c .before .before .before .before .args in
+    laying-short (badText (args .number) (args .place)) (args .out .now) _
+    (omega (arith, bad-long (args .number) (args .place), c .before .before .digits .ensures .0, c .before .digits2 .ensures .0)) (c .if1 .taken)
 
 slice-aggregate-put-text : tie.Need-slice-aggregate-put-text
 slice-aggregate-put-text c = search needs
@@ -54,29 +54,45 @@ put-decimal-requires-2 c κs = search needs
 
 slice-write-out : tie.Need-slice-write-out
 slice-write-out c =
-    let first = place-put 0 _ (ascii "refused ") (c .before .before .before .before .before .before .before .before .before .before .before .before .before .before .before .before .before .before .before .before .before .before .args .out .now) (c .before .before .before .before .before .before .before .before .before .before .before .before .before .before .before .put-text .ensures .0) (omega (arith, c .before .before .before .before .before .before .before .before .before .before .before .before .before .before .before .before .before .before .before .before .digits .ensures .0, c .before .before .before .before .before .before .before .before .before .before .before .before .before .before .before .before .before .before .before .digits2 .ensures .0, c .before .before .before .before .before .before .before .before .before .before .before .before .before .before .before .before .before .before .if1 .left)) in
-    let second = place-put (c .before .before .before .before .before .before .before .before .before .before .before .before .before .before .before .put-text .result) _ (decimal (c .before .before .before .before .before .before .before .before .before .before .before .before .before .before .before .before .before .before .before .before .before .before .args .number)) (c .before .before .before .before .before .before .before .before .before .before .before .before .before .before .before .put-text .last .0) (c .before .before .before .before .before .before .before .before .before .before .before .put-decimal .ensures .0) (omega (arith, first, c .before .before .before .before .before .before .before .before .before .before .before .before .before .before .before .put-text .kept .0, c .before .before .before .before .before .before .before .before .before .before .before .before .before .before .before .before .before .before .before .before .digits .ensures .0, c .before .before .before .before .before .before .before .before .before .before .before .before .before .before .before .before .before .before .before .digits2 .ensures .0, c .before .before .before .before .before .before .before .before .before .before .before .before .before .before .before .before .before .before .if1 .left)) in
-    let third = place-put (c .before .before .before .before .before .before .before .before .before .before .before .put-decimal .result) _ (ascii " at ") (c .before .before .before .before .before .before .before .before .before .before .before .put-decimal .last .0) (c .before .before .before .before .before .before .put-text2 .ensures .0) (omega (arith, first, second, c .before .before .before .before .before .before .before .before .before .before .before .before .before .before .before .put-text .kept .0, c .before .before .before .before .before .before .before .before .before .before .before .put-decimal .kept .0, c .before .before .before .before .before .before .before .before .before .before .before .before .before .before .before .before .before .before .before .before .digits .ensures .0, c .before .before .before .before .before .before .before .before .before .before .before .before .before .before .before .before .before .before .before .digits2 .ensures .0, c .before .before .before .before .before .before .before .before .before .before .before .before .before .before .before .before .before .before .if1 .left)) in
-    let fourth = place-put (c .before .before .before .before .before .before .put-text2 .result) _ (decimal (c .before .before .before .before .before .before .before .before .before .before .before .before .before .before .before .before .before .before .before .before .before .before .args .place)) (c .before .before .before .before .before .before .put-text2 .last .0) (c .before .before .put-decimal2 .ensures .0) (omega (arith, first, second, third, c .before .before .before .before .before .before .before .before .before .before .before .before .before .before .before .put-text .kept .0, c .before .before .before .before .before .before .before .before .before .before .before .put-decimal .kept .0, c .before .before .before .before .before .before .put-text2 .kept .0, c .before .before .before .before .before .before .before .before .before .before .before .before .before .before .before .before .before .before .before .before .digits .ensures .0, c .before .before .before .before .before .before .before .before .before .before .before .before .before .before .before .before .before .before .before .digits2 .ensures .0, c .before .before .before .before .before .before .before .before .before .before .before .before .before .before .before .before .before .before .if1 .left)) in
-    omega (arith, first, second, third, fourth, c .before .before .before .before .before .before .before .before .before .before .before .before .before .before .before .put-text .kept .0, c .before .before .before .before .before .before .before .before .before .before .before .put-decimal .kept .0, c .before .before .before .before .before .before .put-text2 .kept .0, c .before .before .put-decimal2 .kept .0, c .before .before .before .before .before .before .before .before .before .before .before .before .before .before .before .before .before .before .before .before .digits .ensures .0, c .before .before .before .before .before .before .before .before .before .before .before .before .before .before .before .before .before .before .before .digits2 .ensures .0, c .before .before .before .before .before .before .before .before .before .before .before .before .before .before .before .before .before .before .if1 .left)
+    let fits =
+    c .before .before .before .before .before .before .before .before .before .before .before .before .before .before .before .before .before .before in
+    let args = fits .before .before .before .before .args in
+    let first = c .before .before .before .before .before .before .before .before .before .before .before .before .before .before .before .put-text in
+    let second = c .before .before .before .before .before .before .before .before .before .before .before .put-decimal in
+    let third = c .before .before .before .before .before .before .put-text2 in
+    let fourth = c .before .before .put-decimal2 in
+    let long = bad-long (args .number) (args .place) in
+    let room : length (badText (args .number) (args .place)) ≤ length (args .out .now)
+    = omega (arith, fits .before .before .digits .ensures .0, fits .before .digits2 .ensures .0, fits .if1 .left) in
+    bad-room (args .number) (args .place) (first .result) (second .result) (third .result) (fourth .result)
+    (args .out .now) (first .last .0) (second .last .0) (third .last .0) (fourth .last .0) room
+    (first .ensures .0) (first .ensures .1) (second .ensures .0) (second .ensures .1)
+    (third .ensures .0) (third .ensures .1) (fourth .ensures .0) (fourth .ensures .1)
 
 same-length : tie.Need-same-length
-same-length c = simp length-set (c .before .before .put-decimal2 .kept .0 ∙ c .before .before .before .before .before .before .put-text2 .kept .0 ∙ c .before .before .before .before .before .before .before .before .before .before .before .put-decimal .kept .0 ∙ c .before .before .before .before .before .before .before .before .before .before .before .before .before .before .before .put-text .kept .0)
+same-length c =
+    let first = c .before .before .before .before .before .before .before .before .before .before .before .before .before .before .before .put-text in
+    let second = c .before .before .before .before .before .before .before .before .before .before .before .put-decimal in
+    let third = c .before .before .before .before .before .before .put-text2 in
+    simp length-set (c .before .before .put-decimal2 .kept .0 ∙ third .kept .0 ∙ second .kept .0 ∙ first .kept .0)
 
 returns-2 : tie.Need-returns-2
 returns-2 c =
-    let long = bad-long (c .before .before .before .before .before .before .before .before .before .before .before .before .before .before .before .before .before .before .before .before .before .before .args .number) (c .before .before .before .before .before .before .before .before .before .before .before .before .before .before .before .before .before .before .before .before .before .before .args .place) in
-    let room : length (badText (c .before .before .before .before .before .before .before .before .before .before .before .before .before .before .before .before .before .before .before .before .before .before .args .number) (c .before .before .before .before .before .before .before .before .before .before .before .before .before .before .before .before .before .before .before .before .before .before .args .place)) ≤ length (c .before .before .before .before .before .before .before .before .before .before .before .before .before .before .before .before .before .before .before .before .before .before .args .out .now) = omega (arith, long, c .before .before .before .before .before .before .before .before .before .before .before .before .before .before .before .before .before .before .before .before .digits .ensures .0, c .before .before .before .before .before .before .before .before .before .before .before .before .before .before .before .before .before .before .before .digits2 .ensures .0, c .before .before .before .before .before .before .before .before .before .before .before .before .before .before .before .before .before .before .if1 .left) in
-    let first = place-put 0 _ (ascii "refused ") (c .before .before .before .before .before .before .before .before .before .before .before .before .before .before .before .before .before .before .before .before .before .before .args .out .now) (c .before .before .before .before .before .before .before .before .before .before .before .before .before .before .before .put-text .ensures .0) (omega (arith, c .before .before .before .before .before .before .before .before .before .before .before .before .before .before .before .before .before .before .before .before .digits .ensures .0, c .before .before .before .before .before .before .before .before .before .before .before .before .before .before .before .before .before .before .before .digits2 .ensures .0, c .before .before .before .before .before .before .before .before .before .before .before .before .before .before .before .before .before .before .if1 .left)) in
-    let second = place-put (c .before .before .before .before .before .before .before .before .before .before .before .before .before .before .before .put-text .result) _ (decimal (c .before .before .before .before .before .before .before .before .before .before .before .before .before .before .before .before .before .before .before .before .before .before .args .number)) (c .before .before .before .before .before .before .before .before .before .before .before .before .before .before .before .put-text .last .0) (c .before .before .before .before .before .before .before .before .before .before .before .put-decimal .ensures .0) (omega (arith, first, c .before .before .before .before .before .before .before .before .before .before .before .before .before .before .before .put-text .kept .0, c .before .before .before .before .before .before .before .before .before .before .before .before .before .before .before .before .before .before .before .before .digits .ensures .0, c .before .before .before .before .before .before .before .before .before .before .before .before .before .before .before .before .before .before .before .digits2 .ensures .0, c .before .before .before .before .before .before .before .before .before .before .before .before .before .before .before .before .before .before .if1 .left)) in
-    let third = place-put (c .before .before .before .before .before .before .before .before .before .before .before .put-decimal .result) _ (ascii " at ") (c .before .before .before .before .before .before .before .before .before .before .before .put-decimal .last .0) (c .before .before .before .before .before .before .put-text2 .ensures .0) (omega (arith, first, second, c .before .before .before .before .before .before .before .before .before .before .before .before .before .before .before .put-text .kept .0, c .before .before .before .before .before .before .before .before .before .before .before .put-decimal .kept .0, c .before .before .before .before .before .before .before .before .before .before .before .before .before .before .before .before .before .before .before .before .digits .ensures .0, c .before .before .before .before .before .before .before .before .before .before .before .before .before .before .before .before .before .before .before .digits2 .ensures .0, c .before .before .before .before .before .before .before .before .before .before .before .before .before .before .before .before .before .before .if1 .left)) in
-    let fourth = place-put (c .before .before .before .before .before .before .put-text2 .result) _ (decimal (c .before .before .before .before .before .before .before .before .before .before .before .before .before .before .before .before .before .before .before .before .before .before .args .place)) (c .before .before .before .before .before .before .put-text2 .last .0) (c .before .before .put-decimal2 .ensures .0) (omega (arith, first, second, third, c .before .before .before .before .before .before .before .before .before .before .before .before .before .before .before .put-text .kept .0, c .before .before .before .before .before .before .before .before .before .before .before .put-decimal .kept .0, c .before .before .before .before .before .before .put-text2 .kept .0, c .before .before .before .before .before .before .before .before .before .before .before .before .before .before .before .before .before .before .before .before .digits .ensures .0, c .before .before .before .before .before .before .before .before .before .before .before .before .before .before .before .before .before .before .before .digits2 .ensures .0, c .before .before .before .before .before .before .before .before .before .before .before .before .before .before .before .before .before .before .if1 .left)) in
-    laying-fits (badText (c .before .before .before .before .before .before .before .before .before .before .before .before .before .before .before .before .before .before .before .before .before .before .args .number) (c .before .before .before .before .before .before .before .before .before .before .before .before .before .before .before .before .before .before .before .before .before .before .args .place)) (c .before .before .before .before .before .before .before .before .before .before .before .before .before .before .before .before .before .before .before .before .before .before .args .out .now) _ _ (omega (arith, long, c .before .before .before .before .before .before .before .before .before .before .before .before .before .before .before .before .before .before .before .before .digits .ensures .0, c .before .before .before .before .before .before .before .before .before .before .before .before .before .before .before .before .before .before .before .digits2 .ensures .0, c .before .before .before .before .before .before .before .before .before .before .before .before .before .before .before .before .before .before .if1 .left)) room
-    (bad-put (c .before .before .before .before .before .before .before .before .before .before .before .before .before .before .before .before .before .before .before .before .before .before .args .number) (c .before .before .before .before .before .before .before .before .before .before .before .before .before .before .before .before .before .before .before .before .before .before .args .place) _ _ _ _ (c .before .before .before .before .before .before .before .before .before .before .before .before .before .before .before .before .before .before .before .before .before .before .args .out .now) _ _ _ _ room
-    first (text-put 0 (ascii "refused ") (c .before .before .before .before .before .before .before .before .before .before .before .before .before .before .before .before .before .before .before .before .before .before .args .out .now) _ (c .before .before .before .before .before .before .before .before .before .before .before .before .before .before .before .put-text .ensures .1) (omega (arith, c .before .before .before .before .before .before .before .before .before .before .before .before .before .before .before .before .before .before .before .before .digits .ensures .0, c .before .before .before .before .before .before .before .before .before .before .before .before .before .before .before .before .before .before .before .digits2 .ensures .0, c .before .before .before .before .before .before .before .before .before .before .before .before .before .before .before .before .before .before .if1 .left)))
-    second (text-put (c .before .before .before .before .before .before .before .before .before .before .before .before .before .before .before .put-text .result) (decimal (c .before .before .before .before .before .before .before .before .before .before .before .before .before .before .before .before .before .before .before .before .before .before .args .number)) (c .before .before .before .before .before .before .before .before .before .before .before .before .before .before .before .put-text .last .0) _ (c .before .before .before .before .before .before .before .before .before .before .before .put-decimal .ensures .1) (omega (arith, first, c .before .before .before .before .before .before .before .before .before .before .before .before .before .before .before .put-text .kept .0, c .before .before .before .before .before .before .before .before .before .before .before .before .before .before .before .before .before .before .before .before .digits .ensures .0, c .before .before .before .before .before .before .before .before .before .before .before .before .before .before .before .before .before .before .before .digits2 .ensures .0, c .before .before .before .before .before .before .before .before .before .before .before .before .before .before .before .before .before .before .if1 .left)))
-    third (text-put (c .before .before .before .before .before .before .before .before .before .before .before .put-decimal .result) (ascii " at ") (c .before .before .before .before .before .before .before .before .before .before .before .put-decimal .last .0) _ (c .before .before .before .before .before .before .put-text2 .ensures .1) (omega (arith, first, second, c .before .before .before .before .before .before .before .before .before .before .before .before .before .before .before .put-text .kept .0, c .before .before .before .before .before .before .before .before .before .before .before .put-decimal .kept .0, c .before .before .before .before .before .before .before .before .before .before .before .before .before .before .before .before .before .before .before .before .digits .ensures .0, c .before .before .before .before .before .before .before .before .before .before .before .before .before .before .before .before .before .before .before .digits2 .ensures .0, c .before .before .before .before .before .before .before .before .before .before .before .before .before .before .before .before .before .before .if1 .left)))
-    fourth (text-put (c .before .before .before .before .before .before .put-text2 .result) (decimal (c .before .before .before .before .before .before .before .before .before .before .before .before .before .before .before .before .before .before .before .before .before .before .args .place)) (c .before .before .before .before .before .before .put-text2 .last .0) _ (c .before .before .put-decimal2 .ensures .1) (omega (arith, first, second, third, c .before .before .before .before .before .before .before .before .before .before .before .before .before .before .before .put-text .kept .0, c .before .before .before .before .before .before .before .before .before .before .before .put-decimal .kept .0, c .before .before .before .before .before .before .put-text2 .kept .0, c .before .before .before .before .before .before .before .before .before .before .before .before .before .before .before .before .before .before .before .before .digits .ensures .0, c .before .before .before .before .before .before .before .before .before .before .before .before .before .before .before .before .before .before .before .digits2 .ensures .0, c .before .before .before .before .before .before .before .before .before .before .before .before .before .before .before .before .before .before .if1 .left))))
+    let fits =
+    c .before .before .before .before .before .before .before .before .before .before .before .before .before .before .before .before .before .before in
+    let args = fits .before .before .before .before .args in
+    let first = c .before .before .before .before .before .before .before .before .before .before .before .before .before .before .before .put-text in
+    let second = c .before .before .before .before .before .before .before .before .before .before .before .put-decimal in
+    let third = c .before .before .before .before .before .before .put-text2 in
+    let fourth = c .before .before .put-decimal2 in
+    let long = bad-long (args .number) (args .place) in
+    let room : length (badText (args .number) (args .place)) ≤ length (args .out .now)
+    = omega (arith, fits .before .before .digits .ensures .0, fits .before .digits2 .ensures .0, fits .if1 .left) in
+    laying-fits (badText (args .number) (args .place)) (args .out .now) _ _ (omega (arith, fits .before .before .digits .ensures .0, fits .before .digits2 .ensures .0)) room
+    (bad-put (args .number) (args .place) (first .result) (second .result) (third .result) (fourth .result)
+    (args .out .now) (first .last .0) (second .last .0) (third .last .0) (fourth .last .0) room
+    (first .ensures .0) (first .ensures .1) (second .ensures .0) (second .ensures .1)
+    (third .ensures .0) (third .ensures .1) (fourth .ensures .0) (fourth .ensures .1))
 
 pub report-bad-spec : {M : Type 1} → statement M
 report-bad-spec =

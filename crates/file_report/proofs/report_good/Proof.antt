@@ -7,8 +7,7 @@ use borrow.Author.Needs.{needs}
 use Rattle.laws.proofs.Laid.{laying-short, laying-fits}
 use Rattle.text.specs.Decimal.{decimal}
 use Rattle.file_report.specs.Text.{goodText}
-use Rattle.file_report.specs.Held.{rowBy, rowsBy}
-use Rattle.file_report.proofs.Held.{row-long}
+use Rattle.file_report.specs.Held.{rowsBy}
 use Rattle.file_report.proofs.Frames.{good-long, good-most}
 use Rattle.file_report.proofs.report_good.Statement.{statement}
 use Rattle.file_report.proofs.report_good.Tie as tie
@@ -22,7 +21,8 @@ add-if1 c = search needs
 put-good-requires : tie.Need-put-good-requires
 put-good-requires c κs =
     let args = c .before .before .before .before .before .args in
-    (omega arith, omega arith, omega arith, omega (arith, good-most (args .filters .count) (rowBy (args .file .now) (args .filters) (args .sections .«frames_start»)) (row-long (args .file .now) (args .filters) (args .sections .«frames_start»)) (args .sections .frames) (omega arith), c .before .before .lines-length .ensures .0, c .before .if1 .taken))
+    let most = good-most (args .file .now) (args .filters) (args .sections .«frames_start») (args .sections .frames) (omega arith) in
+    (omega arith, omega arith, omega arith, omega (arith, c .before .before .lines-length .ensures .0, c .before .if1 .taken))
 
 same-length : tie.Need-same-length
 same-length c = search needs
@@ -30,8 +30,10 @@ same-length c = search needs
 returns : tie.Need-returns
 returns c =
     let args = c .before .before .before .before .before .before .before .before .args in
+    let most = good-most (args .file .now) (args .filters) (args .sections .«frames_start») (args .sections .frames) (omega arith) in
     laying-fits (goodText (rowsBy (args .file .now) (args .filters) (args .sections))) (args .out .now) _ _ (c .before .before .put-good .ensures .0)
-    (omega (arith, good-most (args .filters .count) (rowBy (args .file .now) (args .filters) (args .sections .«frames_start»)) (row-long (args .file .now) (args .filters) (args .sections .«frames_start»)) (args .sections .frames) (omega arith), c .before .before .before .before .before .lines-length .ensures .0, c .before .before .before .before .if1 .taken)) (c .before .before .put-good .ensures .1)
+    (omega (arith, c .before .before .before .before .before .lines-length .ensures .0, c .before .before .before .before .if1 .taken))
+    (c .before .before .put-good .ensures .1)
 
 accepted-requires : tie.Need-accepted-requires
 accepted-requires c κs = search needs
@@ -51,14 +53,21 @@ add-needed-3 c = search needs
 returns-2 : tie.Need-returns-2
 returns-2 c =
     let args = c .before .before .before .before .before .before .before .args in
+    let long = good-long (args .file .now) (args .filters) (args .sections .«frames_start») (args .sections .frames) in
     let count = ap (λ (k : ℕ). length (decimal k)) (c .before .before .accepted .ensures) in
-    laying-short (goodText (rowsBy (args .file .now) (args .filters) (args .sections))) (args .out .now) _ (omega (arith, good-long (args .filters .count) (rowBy (args .file .now) (args .filters) (args .sections .«frames_start»)) (row-long (args .file .now) (args .filters) (args .sections .«frames_start»)) (args .sections .frames), c .before .before .before .before .lines-length .ensures .0, c .before .digits .ensures .0, count)) (c .if2 .taken)
+    laying-short (goodText (rowsBy (args .file .now) (args .filters) (args .sections))) (args .out .now) _
+    (omega (arith, c .before .before .before .before .lines-length .ensures .0, c .before .digits .ensures .0)) (c .if2 .taken)
 
 put-good-requires-2 : tie.Need-put-good-requires-2
 put-good-requires-2 c κs =
     let args = c .before .before .before .before .before .before .before .before .args in
-    let count = ap (λ (k : ℕ). length (decimal k)) (c .before .before .before .accepted .ensures) in
-    (omega arith, omega arith, omega arith, omega (arith, good-long (args .filters .count) (rowBy (args .file .now) (args .filters) (args .sections .«frames_start»)) (row-long (args .file .now) (args .filters) (args .sections .«frames_start»)) (args .sections .frames), c .before .before .before .before .before .lines-length .ensures .0, c .before .before .digits .ensures .0, count, c .before .if2 .left))
+    let long = good-long (args .file .now) (args .filters) (args .sections .«frames_start») (args .sections .frames) in
+    let count = ap (λ (k : ℕ). length (decimal k)) (c .before .before .before .accepted .ensures) in (
+      omega arith,
+      omega arith,
+      omega arith,
+      omega (arith, c .before .before .before .before .before .lines-length .ensures .0, c .before .before .digits .ensures .0, c .before .if2 .left),
+    )
 
 same-length-2 : tie.Need-same-length-2
 same-length-2 c = search needs
@@ -66,9 +75,16 @@ same-length-2 c = search needs
 returns-3 : tie.Need-returns-3
 returns-3 c =
     let args = c .before .before .before .before .before .before .before .before .before .before .before .args in
+    let long = good-long (args .file .now) (args .filters) (args .sections .«frames_start») (args .sections .frames) in
     let count = ap (λ (k : ℕ). length (decimal k)) (c .before .before .before .before .before .before .accepted .ensures) in
     laying-fits (goodText (rowsBy (args .file .now) (args .filters) (args .sections))) (args .out .now) _ _ (c .before .before .put-good2 .ensures .0)
-    (omega (arith, good-long (args .filters .count) (rowBy (args .file .now) (args .filters) (args .sections .«frames_start»)) (row-long (args .file .now) (args .filters) (args .sections .«frames_start»)) (args .sections .frames), c .before .before .before .before .before .before .before .before .lines-length .ensures .0, c .before .before .before .before .before .digits .ensures .0, count, c .before .before .before .before .if2 .left)) (c .before .before .put-good2 .ensures .1)
+    (omega (
+      arith,
+      c .before .before .before .before .before .before .before .before .lines-length .ensures .0,
+      c .before .before .before .before .before .digits .ensures .0,
+      c .before .before .before .before .if2 .left,
+    ))
+    (c .before .before .put-good2 .ensures .1)
 
 pub report-good-spec : {M : Type 1} → statement M
 report-good-spec =

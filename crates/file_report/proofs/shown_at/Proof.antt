@@ -14,7 +14,9 @@ show-requires : tie.Need-show-requires
 show-requires c κs = search needs
 
 returns : tie.Need-returns
-returns c = c .show .ensures ∙ ap showOf (c .before .before .thirteen .ensures ∙ part-within 13 (c .before .before .before .before .args .at) (c .before .before .before .before .args .file .now) (omega arith))
+returns c =
+    let args = c .before .before .before .before .args in
+    c .show .ensures ∙ ap showOf (c .before .before .thirteen .ensures ∙ part-within 13 (args .at) (args .file .now) (omega arith))
 
 pub shown-at-spec : {M : Type 1} → statement M
 shown-at-spec = tie.close (tie.spec thirteen-requires show-requires returns)
