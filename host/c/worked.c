@@ -1,5 +1,5 @@
 /* Calls every function of chherbolat.h from C and checks its answers: the outline's numbers P1 to P11, the whole case,
-   and what docs/ABI.md works out. Stops at the first wrong answer. */
+   and what docs/ABI.md works out: those calls are named as their row there begins, and are printed so. Stops at the first wrong answer. */
 #include <ctype.h>
 #include <inttypes.h>
 #include <stdio.h>
@@ -64,6 +64,10 @@ static void answers(const char *what, chherbolat_answer got, uint32_t number, ui
         exit(1);
     }
     checked++;
+    if (*what == '|' && got.value >> 32 != 0)
+        printf("%s (%" PRIu32 ", 0x%016" PRIX64 ")\n", what, got.number, got.value);
+    else if (*what == '|')
+        printf("%s (%" PRIu32 ", %" PRIu64 ")\n", what, got.number, got.value);
 }
 
 /* The last call wrote these bytes to the front of what it was lent, and nothing else. */
@@ -213,17 +217,17 @@ static void filters_from_lists(void)
 {
     static const uint32_t two[] = {0x100, 0x104}, above[] = {0x100, 0x800, 0x801}, top[] = {0x1FFFFFFF, 0x1FFFFFFE};
     run written = characters("00100000x00");
-    answers("list", from_list(false, two, 2, 11, REGISTERS), 0, 2);
+    answers("| 0x100, 0x104 | 11 bytes |", from_list(false, two, 2, 11, REGISTERS), 0, 2);
     memcpy(written.bytes + 11, bytes("20 00 00 00 00 9F FF FF").bytes, REGISTERS);
     written.length += REGISTERS;
     wrote("list", written);
-    answers("list, ten characters", from_list(false, two, 2, 10, REGISTERS), 6, 11);
+    answers("| 0x100, 0x104 | 10 bytes |", from_list(false, two, 2, 10, REGISTERS), 6, 11);
     wrote_nothing("list, ten characters");
-    answers("list, above the limit", from_list(false, above, 3, 10, REGISTERS), 1, 1);
+    answers("| 0x100, 0x800, 0x801 | 10 bytes |", from_list(false, above, 3, 10, REGISTERS), 1, 1);
     wrote_nothing("list, above the limit");
-    answers("list, none", from_list(false, two, 0, 10, REGISTERS), 15, 0);
+    answers("| none | 10 bytes |", from_list(false, two, 0, 10, REGISTERS), 15, 0);
     wrote_nothing("list, none");
-    answers("list, seven registers", from_list(false, two, 0, 10, 7), 14, 3);
+    answers("| none, and seven registers | 10 bytes |", from_list(false, two, 0, 10, 7), 14, 3);
     wrote_nothing("list, seven registers");
     answers("list, extended", from_list(true, top, 2, 29, REGISTERS), 0, 2);
     written = characters("1111111111111111111111111111x");
@@ -238,9 +242,9 @@ static void matching(void)
 {
     run registers = bytes("00 00 00 00 FF DF FF FF");
     run frame = bytes("01 24 80 AB 00*9"), no_data = bytes("00 FF E0 00*10");
-    answers("matcher", chherbolat_matcher_accepts(0, registers.bytes, REGISTERS, frame.bytes, FRAME), 0, 1);
+    answers("| match the frame, kind 0 |", chherbolat_matcher_accepts(0, registers.bytes, REGISTERS, frame.bytes, FRAME), 0, 1);
     answers("matcher, 0x7FF", chherbolat_matcher_accepts(0, registers.bytes, REGISTERS, no_data.bytes, FRAME), 0, 0);
-    answers("matcher, kind 2", chherbolat_matcher_accepts(2, registers.bytes, REGISTERS, frame.bytes, FRAME), 7, 0);
+    answers("| match the frame, kind 2 |", chherbolat_matcher_accepts(2, registers.bytes, REGISTERS, frame.bytes, FRAME), 7, 0);
     answers("matcher, seven registers", chherbolat_matcher_accepts(2, registers.bytes, 7, frame.bytes, 12), 14, 1);
     answers("matcher, 12 bytes", chherbolat_matcher_accepts(2, registers.bytes, REGISTERS, frame.bytes, 12), 14, 2);
     answers("P11, filter", single_standard("xxxxxxxxxxx", "00000001"), 0, REGISTERS);
@@ -249,7 +253,7 @@ static void matching(void)
 
 static void decisions(void)
 {
-    answers("receive, ready and a miss", chherbolat_receive(0x101), 0, 5);
+    answers("| receive, status 0x101 |", chherbolat_receive(0x101), 0, 5);
     answers("receive, ready", chherbolat_receive(0x001), 0, 0 + 256 * 3);
     answers("transmit, free", chherbolat_transmit(0x004, false), 0, 0 + 256 * 2);
     answers("transmit, error-passive", chherbolat_transmit(0x000, true), 0, 4 + 256 * 1);
@@ -264,6 +268,8 @@ static void box(void)
     run script = bytes("01 012480AB 00*9  04  03 00000003 000000FF 00000001  04*7  02");
     run no_state = bytes("05 FF*1376 02");
     run broken = bytes("05 00*897 41 00*478 02");
+    run at_release = bytes("05 01 00*896 01 00*451 05 01 00 00*15 01 00*8 04");
+    run beside = bytes("05 01 00*896 01 00*451 05 01 07 00*15 01 00*8 04");
     answers("script", chherbolat_box_script(script.bytes, script.length, lent(), 203), 0, 11);
     wrote("script", bytes("00 00  09 00*22  00  00*69  00 00 02 00*20  00*46  00 02 00 00*14 01 00 000000FD"
                           "  00 01 00 012480AB 00*9"));
@@ -273,6 +279,10 @@ static void box(void)
     wrote("script, no state", bytes("0A 00*16"));
     answers("script, a broken state", chherbolat_box_script(broken.bytes, broken.length, lent(), 17), 0, 2);
     wrote("script, a broken state", bytes("00 0A 00*15"));
+    answers("script, an Overrun at release", chherbolat_box_script(at_release.bytes, at_release.length, lent(), 24), 0, 2);
+    wrote("script, an Overrun at release", bytes("00 00 00 02 00*20"));
+    answers("script, a byte beside an Overrun", chherbolat_box_script(beside.bytes, beside.length, lent(), 24), 0, 2);
+    wrote("script, a byte beside an Overrun", bytes("00 0A 00*22"));
 }
 
 static void files(void)
@@ -281,14 +291,14 @@ static void files(void)
     run wrong_kind = bytes("01  02 00000000FFDFFFFF  0002  012480AB 00*9  00FFE0 00*10");
     run too_many = bytes("11");
     const uint8_t *filters = file.bytes + 1, *frames = file.bytes + 12;
-    answers("whole case", chherbolat_read_file(file.bytes, 38), 0, UINT64_C(0x000C000100020001));
-    answers("37 bytes", chherbolat_read_file(file.bytes, 37), 11, 25);
+    answers("| read the file |", chherbolat_read_file(file.bytes, 38), 0, UINT64_C(0x000C000100020001));
+    answers("| read its first 37 bytes |", chherbolat_read_file(file.bytes, 37), 11, 25);
     answers("39 bytes", chherbolat_read_file(file.bytes, 39), 13, 38);
-    answers("kind 2", chherbolat_read_file(wrong_kind.bytes, 38), 7, 1);
+    answers("| read it with the kind `02` |", chherbolat_read_file(wrong_kind.bytes, 38), 7, 1);
     answers("17 filters", chherbolat_read_file(too_many.bytes, 1), 12, 0);
-    answers("written", chherbolat_write_file(filters, 9, frames, 26, lent(), 39), 0, 38);
+    answers("| write its filter and its frames into 39 bytes |", chherbolat_write_file(filters, 9, frames, 26, lent(), 39), 0, 38);
     wrote("written", file);
-    answers("written, 37 bytes", chherbolat_write_file(filters, 9, frames, 26, lent(), 37), 6, 38);
+    answers("| write them into 37 bytes |", chherbolat_write_file(filters, 9, frames, 26, lent(), 37), 6, 38);
     wrote_nothing("written, 37 bytes");
     answers("written, kind 2", chherbolat_write_file(wrong_kind.bytes + 1, 9, frames, 26, lent(), 39), 7, 0);
     answers("written, eight bytes of a filter", chherbolat_write_file(filters, 8, frames, 25, lent(), 39), 14, 0);
@@ -299,11 +309,11 @@ static void files(void)
 static void reports(void)
 {
     run file = bytes("01  00 00000000FFDFFFFF  0002  012480AB 00*9  00FFE0 00*10");
-    answers("report", chherbolat_report(file.bytes, 38, lent(), 100), 0, 19);
+    answers("| report on the file |", chherbolat_report(file.bytes, 38, lent(), 100), 0, 19);
     wrote("report", characters("0 1\n1 0\naccepted 1\n"));
-    answers("report, 18 bytes", chherbolat_report(file.bytes, 38, lent(), 18), 6, 19);
+    answers("| report on the file into 18 bytes |", chherbolat_report(file.bytes, 38, lent(), 18), 6, 19);
     wrote_nothing("report, 18 bytes");
-    answers("report on 37 bytes", chherbolat_report(file.bytes, 37, lent(), 17), 0, 17);
+    answers("| report on its first 37 bytes |", chherbolat_report(file.bytes, 37, lent(), 17), 0, 17);
     wrote("report on 37 bytes", characters("refused 11 at 25\n"));
 }
 
