@@ -7,7 +7,7 @@ use lib.ListN.{replicate}
 use Rattle.laws.specs.Laid.{written}
 use Rattle.filter_characters.specs.Characters.{badAt}
 use Rattle.filter_compilers.specs.Table.{fieldsOf}
-use Rattle.filter_compilers.specs.Words.{one, care, wordFrom}
+use Rattle.filter_compilers.specs.Words.{one, care, wordOf}
 use Rattle.filter_compilers.specs.Answers.{compileOf}
 use Rattle.filter_list.specs.Pattern.{characterAt, patternOf}
 use Rattle.filter_list.specs.Answers.{firstAbove, registersFor, throughOf, listingOf, listedOf}
@@ -26,9 +26,9 @@ pub answer-worked : (answerOf (delivering 8 3 (replicate 8 0) (listedOf false tw
     × (answerOf (delivering 8 3 (replicate 8 0) (listedOf false (0x100 ∷ 0x800 ∷ 0x801 ∷ []) 10)) ≡ record { number = 1; value = 1 })
     × (answerOf (delivering 8 3 (replicate 8 0) (listedOf false [] 10)) ≡ record { number = 15; value = 0 })
     × (answerOf (delivering 8 3 (replicate 7 0) (listedOf false [] 10)) ≡ record { number = 14; value = 3 })
-unfolding patternOf characterAt firstAbove registersFor throughOf listingOf sized compileOf fieldsOf badAt wordFrom care
+unfolding patternOf characterAt firstAbove registersFor throughOf listingOf sized compileOf fieldsOf badAt wordOf care
 answer-worked = (refl, refl, refl, refl, refl)
 
 pub registers-worked : deliveryLeaves 8 3 (replicate 8 0xA5) (listedOf false two 11) ≡ 0x20 ∷ 0 ∷ 0 ∷ 0 ∷ 0x00 ∷ 0x9F ∷ 0xFF ∷ 0xFF ∷ []
-unfolding patternOf characterAt firstAbove registersFor throughOf listingOf sized written compileOf fieldsOf badAt wordFrom one care
+unfolding patternOf characterAt firstAbove registersFor throughOf listingOf sized written compileOf fieldsOf badAt wordOf one care
 registers-worked = refl

@@ -2,11 +2,11 @@
 -- compared bit exactly if each character other than `x` equals the word's bit at its position. For each position is that of one place, or of none.
 -- Assumes nothing.
 use Prim.Native.Nat.{ℕ, zero, suc, _+_, _*_, _^_, _<_, max}
-use mathlib.Core.Path.{_≡_, refl, sym, ap, ap₂, _∙_, subst}
+use mathlib.Core.Path.{_≡_, sym, ap, ap₂, _∙_, subst}
 use mathlib.Core.Logic.{_≢_, _⊎_, inl, inr, _↔_}
 use mathlib.Core.Bool.{not}
 use mathlib.Core.List.{List, [], _∷_}
-use lib.Bits.{bitOr, or-lt}
+use lib.Bits.{or-lt}
 use lib.Dec.{T, eqb, eqb-refl, T-not, ltb, ltb→lt}
 use lib.ListN.{length, getD}
 use lib.Pow.{shl-lt, pow-mono}
@@ -18,7 +18,7 @@ use Rattle.laws.proofs.Bools.{both-left, both-right}
 use Rattle.laws.proofs.Bits.{bit-zero, bit-or, bit-here, bit-there}
 use Rattle.filter_characters.specs.Characters.{isCharacter, allCharacters}
 use Rattle.filter_registers.specs.Meaning.{Agree}
-use Rattle.filter_compilers.specs.Words.{one, care, wordFrom, codeOf, maskOf}
+use Rattle.filter_compilers.specs.Words.{one, care, wordOf, codeOf, maskOf}
 use Rattle.filter_compilers.specs.Meaning.{fresh, distinct, within, Matches}
 use Rattle.filter_compilers.proofs.Characters.{one-lt, care-lt, care-is, care-not, value}
 
@@ -29,42 +29,42 @@ fresh-at p (q ∷ qs) t (suc i) h e = fresh-at p qs (both-right (not (eqb p q)) 
 
 -- ---- a word filled from characters, each of which gives a bit
 module _ (digit : ℕ → ℕ) (small : (c : ℕ) → digit c < 2) where
-  -- a position that no place has keeps its bit
-  pub off : (w : ℕ) (ps cs : List ℕ) (k : ℕ) → ((i : ℕ) → i < length ps → k ≢ getD ps i 0) → bitAt (wordFrom digit w ps cs) k ≡ bitAt w k
-  unfolding wordFrom
-  off w [] cs k h = refl
-  off w (p ∷ ps) [] k h = refl
-  off w (p ∷ ps) (c ∷ cs) k h =
-      off (bitOr w (digit c * 2 ^ p)) ps cs k (λ i hi. h (suc i) (omega arith))
-      ∙ bit-or w (digit c * 2 ^ p) k
-      ∙ ap (max (bitAt w k)) (bit-there (digit c) p k (small c) (λ e. h 0 (omega arith) (sym e)))
-      ∙ max-zero (bitAt w k)
+  -- a position that no place has is 0
+  pub off : (ps cs : List ℕ) (k : ℕ) → ((i : ℕ) → i < length ps → k ≢ getD ps i 0) → bitAt (wordOf digit ps cs) k ≡ 0
+  unfolding wordOf
+  off [] cs k h = bit-zero k
+  off (p ∷ ps) [] k h = bit-zero k
+  off (p ∷ ps) (c ∷ cs) k h =
+      bit-or (digit c * 2 ^ p) (wordOf digit ps cs) k
+      ∙ ap₂ max (bit-there (digit c) p k (small c) (λ e. h 0 (omega arith) (sym e))) (off ps cs k (λ i hi. h (suc i) (omega arith)))
 
   -- the position of a place has the bit of the character there
-  pub at : (w : ℕ) (ps cs : List ℕ) → T (distinct ps) → (i : ℕ) → i < length ps → i < length cs → bitAt w (getD ps i 0) ≡ 0
-      → bitAt (wordFrom digit w ps cs) (getD ps i 0) ≡ digit (getD cs i 0)
-  unfolding wordFrom
-  at w [] cs t i hp hc z = absurd (not-suc-le-zero hp)
-  at w (p ∷ ps) [] t i hp hc z = absurd (not-suc-le-zero hc)
-  at w (p ∷ ps) (c ∷ cs) t zero hp hc z =
-      off (bitOr w (digit c * 2 ^ p)) ps cs p (fresh-at p ps (both-left (fresh p ps) (distinct ps) t))
-      ∙ bit-or w (digit c * 2 ^ p) p
-      ∙ ap₂ max z (bit-here (digit c) p (small c))
-      ∙ zero-max (digit c)
-  at w (p ∷ ps) (c ∷ cs) t (suc i) hp hc z =
-      at (bitOr w (digit c * 2 ^ p)) ps cs (both-right (fresh p ps) (distinct ps) t) i (le-of-suc-le-suc hp) (le-of-suc-le-suc hc)
-      (bit-or w (digit c * 2 ^ p) (getD ps i 0)
-      ∙ ap₂ max z (bit-there (digit c) p (getD ps i 0) (small c) (fresh-at p ps (both-left (fresh p ps) (distinct ps) t) i (le-of-suc-le-suc hp))))
+  pub at : (ps cs : List ℕ) → T (distinct ps) → (i : ℕ) → i < length ps → i < length cs → bitAt (wordOf digit ps cs) (getD ps i 0) ≡ digit (getD cs i 0)
+  unfolding wordOf
+  at [] cs t i hp hc = absurd (not-suc-le-zero hp)
+  at (p ∷ ps) [] t i hp hc = absurd (not-suc-le-zero hc)
+  at (p ∷ ps) (c ∷ cs) t zero hp hc =
+      bit-or (digit c * 2 ^ p) (wordOf digit ps cs) p
+      ∙ ap₂ max (bit-here (digit c) p (small c)) (off ps cs p (fresh-at p ps (both-left (fresh p ps) (distinct ps) t)))
+      ∙ max-zero (digit c)
+  at (p ∷ ps) (c ∷ cs) t (suc i) hp hc =
+      let other : p ≢ getD ps i 0 = fresh-at p ps (both-left (fresh p ps) (distinct ps) t) i (le-of-suc-le-suc hp) in
+      bit-or (digit c * 2 ^ p) (wordOf digit ps cs) (getD ps i 0)
+      ∙ ap₂ max
+      (bit-there (digit c) p (getD ps i 0) (small c) other)
+      (at ps cs (both-right (fresh p ps) (distinct ps) t) i (le-of-suc-le-suc hp) (le-of-suc-le-suc hc))
+      ∙ zero-max (digit (getD cs i 0))
 
   -- positions below 32 make a word
-  pub word-lt : (w : ℕ) (ps cs : List ℕ) → T (within ps) → w < 2 ^ 32 → wordFrom digit w ps cs < 2 ^ 32
-  unfolding wordFrom
-  word-lt w [] cs t h = h
-  word-lt w (p ∷ ps) [] t h = h
-  word-lt w (p ∷ ps) (c ∷ cs) t h =
+  pub word-lt : (ps cs : List ℕ) → T (within ps) → wordOf digit ps cs < 2 ^ 32
+  unfolding wordOf
+  word-lt [] cs t = omega arith
+  word-lt (p ∷ ps) [] t = omega arith
+  word-lt (p ∷ ps) (c ∷ cs) t =
       let hp : p < 32 = ltb→lt p 32 (both-left (ltb p 32) (within ps) t) in
-      word-lt (bitOr w (digit c * 2 ^ p)) ps cs (both-right (ltb p 32) (within ps) t)
-      (or-lt 32 w (digit c * 2 ^ p) h (omega (arith, shl-lt 1 p (small c), pow-mono {i = 1 + p} {j = 32} (omega arith))))
+      or-lt 32 (digit c * 2 ^ p) (wordOf digit ps cs)
+      (omega (arith, shl-lt 1 p (small c), pow-mono {i = 1 + p} {j = 32} (omega arith)))
+      (word-lt ps cs (both-right (ltb p 32) (within ps) t))
 
 pub character-at : (cs : List ℕ) → T (allCharacters cs) → (i : ℕ) → i < length cs → T (isCharacter (getD cs i 0))
 character-at [] t i h = absurd (not-suc-le-zero h)
@@ -89,10 +89,10 @@ where-is k (p ∷ ps) = step (ℕ-discrete k p) (where-is k ps)
 -- ---- the law
 module _ (ps cs : List ℕ) (apart : T (distinct ps)) (whole : length cs ≡ length ps) where
   pub code-at : (i : ℕ) → i < length cs → bitAt (codeOf ps cs) (getD ps i 0) ≡ one (getD cs i 0)
-  code-at i h = at one one-lt 0 ps cs apart i (omega arith) h (bit-zero (getD ps i 0))
+  code-at i h = at one one-lt ps cs apart i (omega arith) h
 
   pub mask-at : (i : ℕ) → i < length cs → bitAt (maskOf ps cs) (getD ps i 0) ≡ care (getD cs i 0)
-  mask-at i h = at care care-lt 0 ps cs apart i (omega arith) h (bit-zero (getD ps i 0))
+  mask-at i h = at care care-lt ps cs apart i (omega arith) h
 
   module _ (good : T (allCharacters cs)) where
     to : (w : ℕ) → Agree (codeOf ps cs) (maskOf ps cs) w → Matches ps cs w
@@ -115,7 +115,7 @@ module _ (ps cs : List ℕ) (apart : T (distinct ps)) (whole : length cs ≡ len
 
         missing : ((i : ℕ) → i < length ps → k ≢ getD ps i 0) → bitAt (codeOf ps cs) k ≡ bitAt w k
         missing none =
-            let z : _≡_ {A = ℕ} 0 1 = sym (off care care-lt 0 ps cs k none ∙ bit-zero k) ∙ e in
+            let z : _≡_ {A = ℕ} 0 1 = sym (off care care-lt ps cs k none) ∙ e in
             absurd (omega arith)
 
     pub law : (w : ℕ) → Agree (codeOf ps cs) (maskOf ps cs) w ↔ Matches ps cs w

@@ -10,7 +10,7 @@ use borrow.Author.Tests.{eqb-true}
 use Rattle.laws.specs.Said.{Said, refuses, gives}
 use Rattle.filter_registers.specs.Registers.{registersOf}
 use Rattle.filter_compilers.specs.Table.{joined, places}
-use Rattle.filter_compilers.specs.Words.{one, care, wordFrom, codeOf, maskOf}
+use Rattle.filter_compilers.specs.Words.{one, care, wordOf, codeOf, maskOf}
 use Rattle.filter_compilers.specs.Answers.{lengthsOf, charactersOf, answered, compileBy}
 use Rattle.filter_compilers.proofs.Characters.{one-not, care-not}
 use Rattle.filter_compilers.proofs.Words.{word-take}
@@ -80,11 +80,11 @@ module _ (start a b c d e : ℕ) (p q r s t : List ℕ) where
     whole : length (joined (p ∷ q ∷ r ∷ s ∷ t ∷ [])) ≡ a + b + c + d + e
     whole = simp length-append (omega (arith, lengths-five a b c d e _ _ _ _ _ made))
 
-    laid : (digit : ℕ → ℕ) → digit 120 ≡ 0 → (k : ℕ) → wordFrom digit 0 (drop start places) (joined (p ∷ q ∷ r ∷ s ∷ t ∷ []) ++ replicate k 120)
-        ≡ wordFrom digit 0 (take (a + b + c + d + e) (drop start places)) (joined (p ∷ q ∷ r ∷ s ∷ t ∷ []))
+    laid : (digit : ℕ → ℕ) → digit 120 ≡ 0 → (k : ℕ) → wordOf digit (drop start places) (joined (p ∷ q ∷ r ∷ s ∷ t ∷ []) ++ replicate k 120)
+        ≡ wordOf digit (take (a + b + c + d + e) (drop start places)) (joined (p ∷ q ∷ r ∷ s ∷ t ∷ []))
     laid digit z k =
-        word-spared digit z 0 (drop start places) (joined (p ∷ q ∷ r ∷ s ∷ t ∷ [])) k
-        ∙ sym (word-take digit 0 (a + b + c + d + e) (drop start places) (joined (p ∷ q ∷ r ∷ s ∷ t ∷ [])) (omega (arith, whole)))
+        word-spared digit z (drop start places) (joined (p ∷ q ∷ r ∷ s ∷ t ∷ [])) k
+        ∙ sym (word-take digit (a + b + c + d + e) (drop start places) (joined (p ∷ q ∷ r ∷ s ∷ t ∷ [])) (omega (arith, whole)))
 
     pub all-made : (cs : List ℕ) → cs ≡ joined (p ∷ q ∷ r ∷ s ∷ t ∷ []) ++ replicate (32 - length (joined (p ∷ q ∷ r ∷ s ∷ t ∷ []))) 120
         → answered (charactersOf cs) (registersOf (codeOf (drop start places) cs) (maskOf (drop start places) cs))

@@ -3,17 +3,17 @@ use Prim.Native.Nat.{ℕ, zero, suc, _+_, _-_, _*_, _^_, _≤_}
 use mathlib.Core.Path.{_≡_, refl, sym, ap, ap₂, _∙_}
 use mathlib.Core.Bool.{Bool, true, false, cond, _&&_}
 use mathlib.Core.List.{List, [], _∷_, _++_, append-nil, append-assoc}
-use lib.Bits.{bitOr}
+use lib.Bits.{bitOr, or-zero-r}
 use lib.ListN.{length, take, drop, replicate, length-append, length-replicate, replicate-append-replicate}
 use lib.Seq.{paste, take-at, drop-at, take-length, drop-append-add}
+use native.Mathlib.Nat.{zero-mul}
 use native.Mathlib.Omega.{arith}
 use Rattle.laws.specs.Said.{refuses, gives}
 use Rattle.filter_characters.specs.Characters.{isCharacter, allCharacters, badAt}
 use Rattle.filter_characters.proofs.Characters.{all-or-bad}
 use Rattle.filter_compilers.specs.Table.{joined}
-use Rattle.filter_compilers.specs.Words.{wordFrom}
+use Rattle.filter_compilers.specs.Words.{wordOf}
 use Rattle.filter_compilers.specs.Answers.{charactersOf}
-use Rattle.filter_compilers.proofs.Characters.{laid-none}
 use Rattle.filter_compilers.proofs.Words.{word-none}
 
 -- ---- one field after the other
@@ -58,13 +58,14 @@ module _ (a b c d e : List ℕ) where
       pr ∙ ap₂ (λ (x : List ℕ) (n : ℕ). x ++ replicate (32 - n) 120) regroup (sym five-long)
 
 -- ---- the `x` after them
-pub word-spared : (digit : ℕ → ℕ) → digit 120 ≡ 0 → (w : ℕ) (ps s : List ℕ) (k : ℕ) → wordFrom digit w ps (s ++ replicate k 120) ≡ wordFrom digit w ps s
-unfolding wordFrom
-word-spared digit z w [] s k = refl
-word-spared digit z w (p ∷ ps) [] zero = refl
-word-spared digit z w (p ∷ ps) [] (suc k) =
-    ap (λ (v : ℕ). wordFrom digit v ps (replicate k 120)) (sym (laid-none w (digit 120) p z)) ∙ word-spared digit z w ps [] k ∙ word-none digit w ps
-word-spared digit z w (p ∷ ps) (c ∷ s) k = word-spared digit z (bitOr w (digit c * 2 ^ p)) ps s k
+pub word-spared : (digit : ℕ → ℕ) → digit 120 ≡ 0 → (ps s : List ℕ) (k : ℕ) → wordOf digit ps (s ++ replicate k 120) ≡ wordOf digit ps s
+unfolding wordOf
+word-spared digit z [] s k = refl
+word-spared digit z (p ∷ ps) [] zero = refl
+word-spared digit z (p ∷ ps) [] (suc k) =
+    ap (bitOr (digit 120 * 2 ^ p)) (word-spared digit z ps [] k ∙ word-none digit ps)
+    ∙ or-zero-r (digit 120 * 2 ^ p) ∙ ap (λ (d : ℕ). d * 2 ^ p) z ∙ zero-mul (2 ^ p)
+word-spared digit z (p ∷ ps) (c ∷ s) k = ap (bitOr (digit c * 2 ^ p)) (word-spared digit z ps s k)
 
 all-spared : (s : List ℕ) (k : ℕ) → allCharacters (s ++ replicate k 120) ≡ allCharacters s
 all-spared [] zero = refl

@@ -64,10 +64,10 @@ module _ (filter : Filter) (patterns : List (List ℕ)) (made : compileOf filter
   good = all-good (joined patterns) (none-bad (joined patterns) (given .1))
 
   pub code-small : codeOf (rowOf filter) (joined patterns) < 2 ^ 32
-  code-small = word-lt one one-lt 0 (rowOf filter) (joined patterns) (row-within filter) (omega arith)
+  code-small = word-lt one one-lt (rowOf filter) (joined patterns) (row-within filter)
 
   pub mask-small : maskOf (rowOf filter) (joined patterns) < 2 ^ 32
-  mask-small = word-lt care care-lt 0 (rowOf filter) (joined patterns) (row-within filter) (omega arith)
+  mask-small = word-lt care care-lt (rowOf filter) (joined patterns) (row-within filter)
 
   pub registers-made : compileOf filter patterns .1 ≡ registersOf (codeOf (rowOf filter) (joined patterns)) (maskOf (rowOf filter) (joined patterns))
   unfolding compileOf

@@ -14,14 +14,14 @@ one c = cond (eqb c 49) 1 0
 unfoldable pub care : ℕ → ℕ
 care c = cond (eqb c 120) 0 1
 
--- a word, with each character's bit laid at its position
-unfoldable pub wordFrom : (ℕ → ℕ) → ℕ → List ℕ → List ℕ → ℕ
-wordFrom digit w [] cs = w
-wordFrom digit w (p ∷ ps) [] = w
-wordFrom digit w (p ∷ ps) (c ∷ cs) = wordFrom digit (bitOr w (digit c * 2 ^ p)) ps cs
+-- a word with each character's bit at its position
+unfoldable pub wordOf : (ℕ → ℕ) → List ℕ → List ℕ → ℕ
+wordOf digit [] cs = 0
+wordOf digit (p ∷ ps) [] = 0
+wordOf digit (p ∷ ps) (c ∷ cs) = bitOr (digit c * 2 ^ p) (wordOf digit ps cs)
 
 abbrev pub codeOf : List ℕ → List ℕ → ℕ
-codeOf ps cs = wordFrom one 0 ps cs
+codeOf ps cs = wordOf one ps cs
 
 abbrev pub maskOf : List ℕ → List ℕ → ℕ
-maskOf ps cs = wordFrom care 0 ps cs
+maskOf ps cs = wordOf care ps cs

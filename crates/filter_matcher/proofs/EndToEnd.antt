@@ -8,7 +8,7 @@ use lib.ListN.{replicate}
 use Rattle.laws.specs.Said.{gives}
 use Rattle.filter_characters.specs.Characters.{badAt}
 use Rattle.filter_compilers.specs.Table.{singleStandard, fieldsOf}
-use Rattle.filter_compilers.specs.Words.{one, care, wordFrom}
+use Rattle.filter_compilers.specs.Words.{one, care, wordOf}
 use Rattle.filter_compilers.specs.Meaning.{patternsIn}
 use Rattle.filter_compilers.specs.Answers.{compileOf}
 use Rattle.filter_compilers.proofs.Back.{patterns-back}
@@ -36,5 +36,5 @@ extended-frame = 0x80 ∷ 0x24 ∷ 0x60 ∷ replicate 10 0
 pub warning : (extendedOf extended-frame ≡ true)
     × (compileOf singleStandard only-0x123 .0 ≡ gives 8)
     × (acceptsOf false (compileOf singleStandard only-0x123 .1) extended-frame ≡ true)
-unfolding acceptsOf compileOf fieldsOf wordFrom one care badAt numbersIn fitsEither allFit dataOf dataLengthOf
+unfolding acceptsOf compileOf fieldsOf wordOf one care badAt numbersIn fitsEither allFit dataOf dataLengthOf
 warning = (refl, refl, refl)

@@ -7,7 +7,7 @@ use native.Mathlib.Omega.{arith}
 use Rattle.laws.specs.Row.{bit}
 use Rattle.identifiers.specs.Limits.{limitOf}
 use Rattle.filter_compilers.specs.Table.{fieldsOf}
-use Rattle.filter_compilers.specs.Words.{one, wordFrom}
+use Rattle.filter_compilers.specs.Words.{one, wordOf}
 use Rattle.filter_types.proofs.Laid.{laid-single-standard, laid-single-extended, laid-dual-standard, laid-dual-extended}
 use Rattle.frame_info.specs.Info.{extendedOf, remoteOf}
 use Rattle.frame_reading.specs.Buffer.{idOf}
@@ -26,7 +26,7 @@ pub standard-rows : (id rtr byte next single dual : ℕ) → id ≤ limitOf fals
     → single ≡ id * 2 ^ 21 + (rtr * 2 ^ 20 + (byte * 2 ^ 8 + next))
     → dual ≡ id * 2 ^ 21 + (rtr * 2 ^ 20 + byte / 16 * 2 ^ 16) + (id * 2 ^ 5 + (rtr * 2 ^ 4 + byte % 16))
     → standardShown single dual ≡ showBy false id rtr byte next
-unfolding showBy numbersIn onesAt fieldsOf wordFrom one
+unfolding showBy numbersIn onesAt fieldsOf wordOf one
 standard-rows id rtr byte next single dual hi hr hb hn es ed =
     ap₂ standardShown
     (es ∙ sym (laid-single-standard id rtr byte next (omega arith) hr hb hn))
@@ -35,7 +35,7 @@ standard-rows id rtr byte next single dual hi hr hb hn es ed =
 pub extended-rows : (id rtr byte next single dual : ℕ) → id ≤ limitOf true → rtr < 2
     → single ≡ id * 2 ^ 3 + rtr * 2 ^ 2 → dual ≡ id / 2 ^ 13 * 2 ^ 16 + id / 2 ^ 13
     → extendedShown single dual ≡ showBy true id rtr byte next
-unfolding showBy numbersIn onesAt fieldsOf wordFrom one
+unfolding showBy numbersIn onesAt fieldsOf wordOf one
 extended-rows id rtr byte next single dual hi hr es ed =
     ap₂ extendedShown
     (es ∙ sym (laid-single-extended id rtr (omega arith) hr))

@@ -13,7 +13,7 @@ use native.Mathlib.Decide.{ℕ-discrete}
 use native.Mathlib.Omega.{arith}
 use Rattle.laws.specs.Bits.{bitAt}
 use Rattle.laws.specs.Said.{gives}
-use Rattle.laws.proofs.Bits.{bit-lt, bit-zero, bit-xor, bit-here, bit-there, bit-ext}
+use Rattle.laws.proofs.Bits.{bit-lt, bit-xor, bit-here, bit-there, bit-ext}
 use Rattle.filter_registers.specs.Registers.{registersOf, codeIn}
 use Rattle.filter_registers.specs.Meaning.{Agree}
 use Rattle.filter_registers.proofs.Registers.{code-back, registers-equal, accepts-is}
@@ -106,18 +106,18 @@ one-spared : (c : ℕ) → care c ≡ 0 → one c ≡ 0
 one-spared c z = elim (ℕ-discrete c 120) [ yes e ↦ one-not c (λ f. omega arith) | no n ↦ (let o : care c ≡ 1 = care-is c n in absurd (omega arith)) ]
 
 patterns-tidy : (ps cs : List ℕ) → T (distinct ps) → length cs ≡ length ps → Tidy (codeOf ps cs) (maskOf ps cs)
-patterns-tidy ps cs apart long k z = elim (where-is k ps) [ inl (i, h, p) ↦ found i h p | inr none ↦ off one one-lt 0 ps cs k none ∙ bit-zero k ]
+patterns-tidy ps cs apart long k z = elim (where-is k ps) [ inl (i, h, p) ↦ found i h p | inr none ↦ off one one-lt ps cs k none ]
   where
     found : (i : ℕ) → i < length ps → k ≡ getD ps i 0 → bitAt (codeOf ps cs) k ≡ 0
     found i h p =
         let hc : i < length cs = omega arith in
-        let m : care (getD cs i 0) ≡ 0 = sym (at care care-lt 0 ps cs apart i h hc (bit-zero (getD ps i 0))) ∙ ap (bitAt (maskOf ps cs)) (sym p) ∙ z in
-        ap (bitAt (codeOf ps cs)) p ∙ at one one-lt 0 ps cs apart i h hc (bit-zero (getD ps i 0)) ∙ one-spared (getD cs i 0) m
+        let m : care (getD cs i 0) ≡ 0 = sym (at care care-lt ps cs apart i h hc) ∙ ap (bitAt (maskOf ps cs)) (sym p) ∙ z in
+        ap (bitAt (codeOf ps cs)) p ∙ at one one-lt ps cs apart i h hc ∙ one-spared (getD cs i 0) m
 
 -- ---- every filter's builder from code and mask
 pub laid-small : (filter : Filter) (values : List ℕ) → laidOf (fieldsOf filter) values < 2 ^ 32
 unfolding laidOf
-laid-small filter values = word-lt one one-lt 0 (rowOf filter) (writtenIn (fieldsOf filter) values) (row-within filter) (omega arith)
+laid-small filter values = word-lt one one-lt (rowOf filter) (writtenIn (fieldsOf filter) values) (row-within filter)
 
 pub written-whole : (fields : List (List ℕ)) (values : List ℕ) → length values ≡ length fields → length (writtenIn fields values) ≡ length (joined fields)
 written-whole [] values h = refl

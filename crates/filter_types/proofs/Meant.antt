@@ -13,7 +13,7 @@ use native.Mathlib.Omega.{arith}
 use borrow.Author.Tests.{eq-eqb, ne-eqb, eqb-false}
 use Rattle.laws.specs.Bits.{bitAt}
 use Rattle.laws.specs.Said.{Said, gives}
-use Rattle.laws.proofs.Bits.{bit-lt, bit-zero, bit-not}
+use Rattle.laws.proofs.Bits.{bit-lt, bit-not}
 use Rattle.laws.proofs.Bools.{and-yes}
 use Rattle.filter_characters.specs.Characters.{isCharacter, allCharacters}
 use Rattle.filter_registers.specs.Registers.{codeIn, maskIn}
@@ -120,7 +120,7 @@ module _ (filter : Filter) (codes masks : List ℕ) (laid : codeMaskOf filter co
   unfolding laidOf
   spared k hk none =
       let mask = laidOf (fieldsOf filter) masks in
-      let zero : bitAt (laidOf (fieldsOf filter) masks) k ≡ 0 = off one one-lt 0 (rowOf filter) (writtenIn (fieldsOf filter) masks) k none ∙ bit-zero k in
+      let zero : bitAt (laidOf (fieldsOf filter) masks) k ≡ 0 = off one one-lt (rowOf filter) (writtenIn (fieldsOf filter) masks) k none in
       ap (λ (r : List ℕ). bitAt (maskIn r) k) (registers-laid filter codes masks laid)
       ∙ ap (λ (x : ℕ). bitAt x k) (mask-back (laidOf (fieldsOf filter) codes) mask (laid-small filter masks))
       ∙ bit-not k 32 mask hk (laid-small filter masks)

@@ -1,12 +1,13 @@
 -- `filter_compilers::fill` meets its contract: what is read so far and what is left to read make both words, one above the other. Assumes nothing.
 use Prim.Native.Nat.{_≤_, _<_, _-_, _+_}
 use mathlib.Core.Path.{_≡_, refl}
+use lib.Bits.{bitOr}
 use lib.ListN.{length, drop}
 use native.Mathlib.Nat.{add-zero}
 use native.Mathlib.Omega.{arith}
 use Rattle.laws.proofs.Bools.{is-true}
 use Rattle.filter_compilers.specs.Table.{fieldsOf, places}
-use Rattle.filter_compilers.specs.Words.{wordFrom}
+use Rattle.filter_compilers.specs.Words.{wordOf}
 use Rattle.filter_compilers.proofs.Table.{places-long, places-within}
 use Rattle.filter_compilers.proofs.Words.{word-end, word-turn}
 use Rattle.filter_compilers.proofs.Agree.{character-at}
@@ -16,7 +17,7 @@ use Rattle.filter_compilers.proofs.fill.Tie as tie
 
 abbrev Inv-loop : tie.InvT-loop
 Inv-loop start characters table words₀ i₀ words i = (i ≤ length characters)
-    × (wordFrom both words (drop (start + i) places) (drop i characters) ≡ wordFrom both 0 (drop start places) characters)
+    × (bitOr words (wordOf both (drop (start + i) places) (drop i characters)) ≡ wordOf both (drop start places) characters)
 
 abbrev μ-loop : tie.MeasureT-loop
 μ-loop start characters table words₀ i₀ words i = length characters - i
@@ -44,9 +45,12 @@ loop-less c = omega arith
 
 loop-again : tie.Need-loop-again Inv-loop μ-loop
 loop-again c =
-    let s = c .before .before .before .before .before .before .args .characters .now in
-    let room : c .before .before .before .before .before .before .args .start + c .before .before .before .before .loop .i < length places = rw places-long (omega (arith, c .before .before .before .before .before .before .pre .0)) in
-    (omega arith, word-turn both places s (c .before .before .before .before .before .before .args .start) (c .before .before .before .before .loop .i) _ _ _ (c .before .before .before .loop-test .taken) room (c .read .ensures) (c .before .before .before .before .loop .inv .1))
+    let called = c .before .before .before .before .before .before in
+    let turn = c .before .before .before .before .loop in
+    let room : called .args .start + turn .i < length places = rw places-long (omega (arith, called .pre .0)) in
+    let taken = c .before .before .before .loop-test .taken in
+    let s = called .args .characters .now in
+    (omega arith, word-turn both places s (called .args .start) (turn .i) (turn .words) _ _ taken room (c .read .ensures) (turn .inv .1))
 
 returns : tie.Need-returns Inv-loop μ-loop
 returns c =
