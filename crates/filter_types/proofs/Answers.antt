@@ -11,7 +11,8 @@ use Rattle.identifiers.specs.Limits.{limitOf}
 use Rattle.filter_registers.specs.Registers.{registersOf}
 use Rattle.filter_compilers.specs.Table.{Filter, singleStandard, singleExtended, dualStandard, dualExtended, fieldsOf}
 use Rattle.filter_types.specs.Words.{laidOf}
-use Rattle.filter_types.specs.Answers.{Held, identifier, number, heldBy, allWithin, limitsKept, codeMaskOf, bothWithin}
+use Rattle.filter_types.specs.Answers.{Held, identifier, number, heldBy, allWithin, limitsKept, codeMaskOf}
+use Rattle.filter_types.specs.Within.{bothWithin}
 
 pub code-mask-refused : (filter : Filter) (codes masks : List ℕ) → limitsKept filter codes masks ≡ false
     → _≡_ {A = Said ℕ × List ℕ} (refuses 1 [], replicate 8 0) (codeMaskOf filter codes masks)

@@ -40,7 +40,3 @@ unfoldable pub codeMaskOf : Filter → List ℕ → List ℕ → Said ℕ × Lis
 codeMaskOf filter codes masks =
     answered (cond (limitsKept filter codes masks) (gives 8) (refuses 1 []))
     (registersOf (laidOf (fieldsOf filter) codes) (laidOf (fieldsOf filter) masks))
-
--- one identifier's code and mask, for the two private functions that judge them: no promise of a public function cites it
-abbrev pub bothWithin : Bool → ℕ → ℕ → Bool
-bothWithin format code mask = leb code (limitOf format) && leb mask (limitOf format)

@@ -1,3 +1,4 @@
 pub mod Words
 pub mod Answers
 pub mod Meaning
+pub mod Within

@@ -5,7 +5,7 @@ use native.Mathlib.Omega.{arith}
 use borrow.Author.Tests.{not-true, not-false}
 use borrow.Author.Needs.{needs}
 use Rattle.laws.proofs.Bools.{and-last-no, and-first-no, and-yes}
-use Rattle.filter_types.specs.Answers.{bothWithin}
+use Rattle.filter_types.specs.Within.{bothWithin}
 use Rattle.filter_types.proofs.Answers.{code-mask-refused, code-mask-made, both-within, two-kept}
 use Rattle.filter_types.proofs.DualStandardFilter.new_from_code_mask.Statement.{statement}
 use Rattle.filter_types.proofs.DualStandardFilter.new_from_code_mask.Tie as tie
