@@ -126,7 +126,8 @@ impl Tally {
         println!("matching refused, by number: {}", by_number(&self.refused_matches));
         println!("decisions, by answer/command: {}", self.decisions());
         println!("answers about files, by number: {}", self.files());
-        println!("compared: {}; 0 differ", kinds.join(", "));
+        let cases = grouped(self.kinds.values().sum());
+        println!("compared: {cases} cases: {}; 0 differ", kinds.join(", "));
     }
 }
 
