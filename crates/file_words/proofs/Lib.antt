@@ -1,0 +1,4 @@
+pub mod Page
+pub mod Refused
+pub mod Cap
+pub mod Cases
