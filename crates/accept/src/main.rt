@@ -1,30 +1,64 @@
-// Reads a frame file on standard input, at most one byte more than the longest, and prints the report on it.
+// Reads a frame file on standard input, at most one byte more than the longest, and prints the report on it. Standard error
+// says in words why a file is refused, and behind `error:` what went wrong with input or output.
 use libc::STDERR_FILENO;
 use libc::STDOUT_FILENO;
 use standard_input::Input;
 use text::Laying;
 
-// Text of the longest report is shorter than the buffer: 4,096 lines of at most 22 characters, and the last.
-fn print_report(file: &[u8]) {
+// Whether all of the report was written. The longest is shorter than the buffer: 4,096 lines of at most 22 characters, and the last.
+fn print_report(file: &[u8]) -> bool {
     let mut text = [0u8; 131072];
     match file_report::report(file, &mut text) {
         Laying::Laid(length) => {
             if length <= 131072 {
-                io::write_all(STDOUT_FILENO, &text[..length]);
+                return io::write_all(STDOUT_FILENO, &text[..length]);
+            }
+            false
+        }
+        Laying::Refused(_) => false,
+    }
+}
+
+fn say(words: &[u8]) {
+    if words.len() > 0 {
+        io::write_all(STDERR_FILENO, b"accept: ");
+        io::write_all(STDERR_FILENO, words);
+    }
+}
+
+// No words are longer than the buffer; a file that is read has none.
+fn print_words(file: &[u8]) {
+    let mut text = [0u8; 128];
+    match file_words::words(file, &mut text) {
+        Laying::Laid(length) => {
+            if length <= 128 {
+                say(&text[..length]);
             }
         }
-        Laying::Refused(_) => {
-            io::write_all(STDERR_FILENO, b"accept: the report is longer than can be\n");
-        }
+        Laying::Refused(_) => {}
     }
+}
+
+fn print_all(file: &[u8]) {
+    if print_report(file) {
+        print_words(file);
+        return;
+    }
+    io::write_all(
+        STDERR_FILENO,
+        b"accept: error: the report can't be written\n",
+    );
 }
 
 fn main() {
     let mut file = [0u8; 53396];
     match standard_input::read_input(&mut file) {
-        Input::Read(length) => print_report(&file[..length]),
+        Input::Read(length) => print_all(&file[..length]),
         Input::Failed => {
-            io::write_all(STDERR_FILENO, b"accept: standard input can't be read\n");
+            io::write_all(
+                STDERR_FILENO,
+                b"accept: error: standard input can't be read\n",
+            );
         }
     }
 }

@@ -15,11 +15,11 @@ enum-known-length c = search needs
 array-share-prefix-file : tie.Need-array-share-prefix-file
 array-share-prefix-file c = let within = rw (c .before .length .given .1) at (c .before .before .before .before .read-input .ensures) in within .0
 
-slice-aggregate-print-report : tie.Need-slice-aggregate-print-report
-slice-aggregate-print-report c = let within = rw (c .before .before .length .given .1) at (c .before .before .before .before .before .read-input .ensures) in within .1
+slice-aggregate-print-all : tie.Need-slice-aggregate-print-all
+slice-aggregate-print-all c = let within = rw (c .before .before .length .given .1) at (c .before .before .before .before .before .read-input .ensures) in within .1
 
-print-report-requires : tie.Need-print-report-requires
-print-report-requires c κs = search needs
+print-all-requires : tie.Need-print-all-requires
+print-all-requires c κs = search needs
 
 enum-told : tie.Need-enum-told
 enum-told c = search needs
@@ -44,8 +44,8 @@ main-spec =
     read-input-requires
     enum-known-length
     array-share-prefix-file
-    slice-aggregate-print-report
-    print-report-requires
+    slice-aggregate-print-all
+    print-all-requires
     enum-told
     slice-aggregate-write-all
     write-all-requires

@@ -1,7 +1,7 @@
 -- `accept::print_report` is safe: the text that is written is a part of the buffer. Assumes nothing.
 use mathlib.Core.Path.{sym}
-use native.Mathlib.Omega.{arith}
 use lib.Seq.{length-take-le}
+use native.Mathlib.Omega.{arith}
 use borrow.Author.Needs.{needs}
 use Rattle.accept.proofs.print_report.Statement.{statement}
 use Rattle.accept.proofs.print_report.Tie as tie
@@ -24,17 +24,11 @@ slice-aggregate-write-all c = sym (length-take-le (c .before .before .before .le
 write-all-requires : tie.Need-write-all-requires
 write-all-requires c κs = search needs
 
-enum-told : tie.Need-enum-told
-enum-told c = search needs
-
-slice-aggregate-write-all-2 : tie.Need-slice-aggregate-write-all-2
-slice-aggregate-write-all-2 c = search needs
-
-write-all-requires-2 : tie.Need-write-all-requires-2
-write-all-requires-2 c κs = search needs
-
 returns : tie.Need-returns
 returns c = search needs
+
+enum-told : tie.Need-enum-told
+enum-told c = search needs
 
 returns-2 : tie.Need-returns-2
 returns-2 c = search needs
@@ -52,9 +46,7 @@ print-report-spec =
     array-share-prefix-text
     slice-aggregate-write-all
     write-all-requires
-    enum-told
-    slice-aggregate-write-all-2
-    write-all-requires-2
     returns
+    enum-told
     returns-2
     returns-3)

@@ -1,0 +1,52 @@
+-- `accept::print_words` is safe: the words that are written are a part of the buffer. Assumes nothing.
+use mathlib.Core.Path.{sym}
+use lib.Seq.{length-take-le}
+use native.Mathlib.Omega.{arith}
+use borrow.Author.Needs.{needs}
+use Rattle.accept.proofs.print_words.Statement.{statement}
+use Rattle.accept.proofs.print_words.Tie as tie
+
+slice-aggregate-words : tie.Need-slice-aggregate-words
+slice-aggregate-words c = search needs
+
+words-requires : tie.Need-words-requires
+words-requires c κs = search needs
+
+enum-known-length : tie.Need-enum-known-length
+enum-known-length c = search needs
+
+array-share-prefix-text : tie.Need-array-share-prefix-text
+array-share-prefix-text c = search needs
+
+slice-aggregate-say : tie.Need-slice-aggregate-say
+slice-aggregate-say c = sym (length-take-le (c .before .before .before .length .given .0 .0) (c .before .before .before .before .before .before .words .last .1 .0) (omega (arith, c .before .before .before .before .before .before .words .kept .1 .0, c .before .if1 .taken)))
+
+say-requires : tie.Need-say-requires
+say-requires c κs = search needs
+
+enum-told : tie.Need-enum-told
+enum-told c = search needs
+
+returns : tie.Need-returns
+returns c = search needs
+
+returns-2 : tie.Need-returns-2
+returns-2 c = search needs
+
+returns-3 : tie.Need-returns-3
+returns-3 c = search needs
+
+pub print-words-spec : {M : Type 1} → statement M
+print-words-spec =
+    tie.close
+    (tie.spec
+    slice-aggregate-words
+    words-requires
+    enum-known-length
+    array-share-prefix-text
+    slice-aggregate-say
+    say-requires
+    enum-told
+    returns
+    returns-2
+    returns-3)
