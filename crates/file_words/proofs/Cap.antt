@@ -4,18 +4,18 @@ use Prim.Native.Nat.{ℕ, zero, suc, _+_, _*_, _≤_, _<_}
 use mathlib.Core.Path.{_≡_, refl, ap, _∙_}
 use mathlib.Core.Bool.{Bool, true, false, cond}
 use mathlib.Core.List.{List, [], _∷_}
-use lib.Dec.{ltb, eqb}
+use lib.Dec.{ltb}
 use lib.ListN.{length, getD, take}
 use lib.Seq.{take-all, getD-take}
 use native.Mathlib.Omega.{arith}
 use native.Mathlib.Decide.{decLt}
 use borrow.Author.Tests.{le-ltb, lt-ltb, ltb-false}
-use Rattle.laws.specs.Said.{Said, refuses, gives}
+use Rattle.laws.specs.Said.{refuses}
 use Rattle.file_reading.specs.Format.{filterLimit, frameLimit, filterBytes, frameBytes, filtersEnd, longest, countAt}
 use Rattle.file_reading.specs.declared.Sections.{Sections}
 use Rattle.file_reading.specs.Reader.{sectionsWith, framesFrom, framesAt, filtersFrom, readOf}
 use Rattle.file_reading.proofs.Cap.{read-cap}
-use Rattle.file_words.specs.Words.{around, countWords, refusalWords, readWords, wordsOf}
+use Rattle.file_words.specs.Words.{countWords, refusalWords, readWords, wordsOf}
 
 module _ (t s : List ℕ) (same : (i : ℕ) → i < longest + 1 → getD t i 0 ≡ getD s i 0) (long : longest < length s) where
   frames-same : (sections : Sections) (n at : ℕ) → at + frameBytes * n ≤ longest

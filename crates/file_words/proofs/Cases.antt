@@ -1,7 +1,6 @@
 -- What some files' words are, by computation. Assumes nothing.
-use Prim.Native.Nat.{ℕ}
 use mathlib.Core.Path.{_≡_, refl}
-use mathlib.Core.List.{List, [], _∷_, _++_}
+use mathlib.Core.List.{[], _∷_}
 use lib.ListN.{replicate}
 use Rattle.laws.specs.Ascii.{ascii}
 use Rattle.text.specs.Decimal.{digitsOf, decimal}

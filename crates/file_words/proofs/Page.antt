@@ -1,6 +1,6 @@
 -- Texts put on a page one behind another: a number between two texts, and two of them. Assumes nothing.
 use Prim.Native.Nat.{ℕ, _+_, _^_, _≤_, _<_}
-use mathlib.Core.Path.{_≡_, refl, sym, ap, _∙_}
+use mathlib.Core.Path.{_≡_, refl, ap, _∙_}
 use mathlib.Core.List.{List, [], _++_, append-assoc}
 use lib.ListN.{length, length-append}
 use native.Mathlib.Omega.{arith}
@@ -13,7 +13,7 @@ use Rattle.text.proofs.Put.{place-put, text-put}
 use Rattle.file_words.specs.Words.{around}
 
 -- a page with a text in its front, and the place behind it
-pub record On (text page now : List ℕ) (at : ℕ) : Type 0 where
+record On (text page now : List ℕ) (at : ℕ) : Type 0 where
   pub place : at ≡ length text
   pub laid-is : now ≡ laidFirst text page
 
@@ -37,7 +37,7 @@ behind-put a b page was one two n at r₁ r₂ on room e₁ p₁ e₂ p₂ =
     let number = further a (decimal n) page was one at r₁ on (omega arith) e₁ p₁ in
     rw append-assoc at (further (a ++ decimal n) b page one two r₁ r₂ number (omega (arith, length-append a (decimal n))) e₂ p₂)
 
-pub around-long : (a b : List ℕ) (n : ℕ) → length (around a n b) ≡ length a + length (decimal n) + length b
+around-long : (a b : List ℕ) (n : ℕ) → length (around a n b) ≡ length a + length (decimal n) + length b
 unfolding around
 around-long a b n = simp length-append (omega arith)
 

@@ -24,7 +24,7 @@ countWords s at =
     (around [] (getD s 0 0) (around (ascii " filters announced, at most ") filterLimit (ascii "; is this a frame file?\n")))
     (around [] (countAt s at) (around (ascii " frames announced, at most ") frameLimit (ascii "\n")))
 
--- by the reader's number and its place; the last is 13, since the reader has no other
+-- by the reader's number and its place; the last is 13, since the reader has no other (proofs/Refused)
 unfoldable pub refusalWords : List ℕ → ℕ → ℕ → List ℕ
 refusalWords s number at =
     cond (eqb number 7)

@@ -1,6 +1,5 @@
 // Why a frame file is refused, in words, in a lent output; nothing where it is read.
 ghost use mathlib.Core.Path.{_≡_};
-ghost use mathlib.Core.List.{_++_};
 ghost use Prim.Native.Nat.{_+_, _<_, _≤_};
 ghost use lib.ListN.{length, getD};
 ghost use Rattle.laws.specs.Laid.{laidFirst, laying, written};

@@ -19,7 +19,9 @@ array-share-prefix-text : tie.Need-array-share-prefix-text
 array-share-prefix-text c = search needs
 
 slice-aggregate-write-all : tie.Need-slice-aggregate-write-all
-slice-aggregate-write-all c = sym (length-take-le (c .before .before .before .length .given .0 .0) (c .before .before .before .before .before .before .report .last .1 .0) (omega (arith, c .before .before .before .before .before .before .report .kept .1 .0, c .before .if1 .taken)))
+slice-aggregate-write-all c =
+    let laid = c .before .before .before .before .before .before .report in
+    sym (length-take-le (c .before .before .before .length .given .0 .0) (laid .last .1 .0) (omega (arith, laid .kept .1 .0, c .before .if1 .taken)))
 
 write-all-requires : tie.Need-write-all-requires
 write-all-requires c κs = search needs

@@ -19,7 +19,9 @@ array-share-prefix-text : tie.Need-array-share-prefix-text
 array-share-prefix-text c = search needs
 
 slice-aggregate-say : tie.Need-slice-aggregate-say
-slice-aggregate-say c = sym (length-take-le (c .before .before .before .length .given .0 .0) (c .before .before .before .before .before .before .words .last .1 .0) (omega (arith, c .before .before .before .before .before .before .words .kept .1 .0, c .before .if1 .taken)))
+slice-aggregate-say c =
+    let laid = c .before .before .before .before .before .before .words in
+    sym (length-take-le (c .before .before .before .length .given .0 .0) (laid .last .1 .0) (omega (arith, laid .kept .1 .0, c .before .if1 .taken)))
 
 say-requires : tie.Need-say-requires
 say-requires c κs = search needs

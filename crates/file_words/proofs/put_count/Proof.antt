@@ -26,7 +26,8 @@ same-length c = search needs
 returns : tie.Need-returns
 unfolding countWords
 returns c =
-    rw (eq-eqb (c .before .before .before .before .before .before .before .before .before .before .before .args .at) 0 (c .before .before .before .before .before .before .before .before .if1 .taken), ← c .before .before .before .before .before .before .byte-at .ensures .0) (c .before .before .put-numbers .ensures)
+    let tested = c .before .before .before .before .before .before .before .before in
+    rw (eq-eqb (tested .before .before .before .args .at) 0 (tested .if1 .taken), ← c .before .before .before .before .before .before .byte-at .ensures .0) (c .before .before .put-numbers .ensures)
 
 slice-aggregate-put-numbers-4 : tie.Need-slice-aggregate-put-numbers-4
 slice-aggregate-put-numbers-4 c = search needs
@@ -49,7 +50,8 @@ same-length-2 c = search needs
 returns-2 : tie.Need-returns-2
 unfolding countWords
 returns-2 c =
-    rw (ne-eqb (c .before .before .before .before .before .before .before .before .before .before .before .args .at) 0 (c .before .before .before .before .before .before .before .before .if1 .left), ← c .before .before .before .before .before .before .count-at .ensures) (c .before .before .put-numbers2 .ensures)
+    let tested = c .before .before .before .before .before .before .before .before in
+    rw (ne-eqb (tested .before .before .before .args .at) 0 (tested .if1 .left), ← c .before .before .before .before .before .before .count-at .ensures) (c .before .before .put-numbers2 .ensures)
 
 pub put-count-spec : {M : Type 1} → statement M
 put-count-spec =

@@ -30,7 +30,8 @@ returns : tie.Need-returns
 unfolding refusalWords
 returns c =
     let args = c .before .before .before .before .before .before .before .before .before .before .before .args in
-    let kind : c .before .before .before .before .before .byte-at .result ≡ getD (args .file .now) (args .at) 0 = c .before .before .before .before .before .byte-at .ensures .0 in
+    let told = c .before .before .before .before .before .byte-at in
+    let kind : told .result ≡ getD (args .file .now) (args .at) 0 = told .ensures .0 in
     rw (eq-eqb (args .number) 7 (c .before .before .before .before .before .before .before .before .if1 .taken), ← kind) (c .before .before .put-numbers .ensures)
 
 slice-aggregate-put-numbers-4 : tie.Need-slice-aggregate-put-numbers-4
@@ -51,8 +52,9 @@ same-length-2 c = search needs
 returns-2 : tie.Need-returns-2
 unfolding refusalWords
 returns-2 c =
-    let number = c .before .before .before .before .before .before .before .before .before .before .before .args .number in
-    rw (ne-eqb number 7 (c .before .before .before .before .before .before .before .before .if1 .left), eq-eqb number 11 (c .before .before .before .before .before .before .before .if2 .taken)) (c .before .before .put-numbers2 .ensures)
+    let tested = c .before .before .before .before .before .before .before in
+    let number = tested .before .before .before .before .args .number in
+    rw (ne-eqb number 7 (tested .before .if1 .left), eq-eqb number 11 (tested .if2 .taken)) (c .before .before .put-numbers2 .ensures)
 
 put-count-requires : tie.Need-put-count-requires
 put-count-requires c κs = search needs
@@ -63,8 +65,10 @@ same-length-3 c = search needs
 returns-3 : tie.Need-returns-3
 unfolding refusalWords
 returns-3 c =
-    let number = c .before .before .before .before .before .before .before .before .before .args .number in
-    rw (ne-eqb number 7 (c .before .before .before .before .before .before .if1 .left), ne-eqb number 11 (c .before .before .before .before .before .if2 .left), eq-eqb number 12 (c .before .before .before .before .if3 .taken)) (c .before .before .put-count .ensures)
+    let tested = c .before .before .before .before in
+    let number = tested .before .before .before .before .before .args .number in
+    rw (ne-eqb number 7 (tested .before .before .if1 .left), ne-eqb number 11 (tested .before .if2 .left), eq-eqb number 12 (tested .if3 .taken))
+    (c .before .before .put-count .ensures)
 
 slice-aggregate-put-number : tie.Need-slice-aggregate-put-number
 slice-aggregate-put-number c = search needs
@@ -81,9 +85,11 @@ same-length-4 c = search needs
 returns-4 : tie.Need-returns-4
 unfolding refusalWords
 returns-4 c =
-    let number = c .before .before .before .before .before .before .before .before .before .before .before .args .number in
+    let tested = c .before .before .before .before .before .before in
+    let number = tested .before .before .before .before .before .args .number in
     let put = c .before .before .put-number .ensures in
-    rw (ne-eqb number 7 (c .before .before .before .before .before .before .before .before .if1 .left), ne-eqb number 11 (c .before .before .before .before .before .before .before .if2 .left), ne-eqb number 12 (c .before .before .before .before .before .before .if3 .left)) (put .0, put .1, omega (arith, put .2))
+    rw (ne-eqb number 7 (tested .before .before .if1 .left), ne-eqb number 11 (tested .before .if2 .left), ne-eqb number 12 (tested .if3 .left))
+    (put .0, put .1, omega (arith, put .2))
 
 pub put-refusal-spec : {M : Type 1} → statement M
 put-refusal-spec =

@@ -37,9 +37,11 @@ same-length c = search needs
 
 returns-2 : tie.Need-returns-2
 returns-2 c =
-    let args = c .before .before .before .before .before .before .before .before .before .before .before .before .args in
-    let read = sym (c .before .before .before .before .before .before .before .before .before .read-file .ensures) ∙ ap readingSaid (c .before .before .before .before .before .before .before .reading .given .1) in
-    rw (words-refused (args .file .now) (c .before .before .before .before .before .before .before .reading .given .0 .0) read, ← c .before .before .before .before .before .number .ensures, ← c .before .before .before .before .carried .ensures) (c .before .before .put-refusal .ensures)
+    let known = c .before .before .before .before .before .before .before in
+    let file = known .before .before .before .before .before .args .file .now in
+    let read = sym (known .before .before .read-file .ensures) ∙ ap readingSaid (known .reading .given .1) in
+    let refused = words-refused file (known .reading .given .0 .0) read in
+    rw (refused, ← c .before .before .before .before .before .number .ensures, ← c .before .before .before .before .carried .ensures) (c .before .before .put-refusal .ensures)
 
 pub put-words-spec : {M : Type 1} → statement M
 put-words-spec =
