@@ -5,34 +5,44 @@ use libc::STDOUT_FILENO;
 use standard_input::Input;
 use text::Laying;
 
-// Whether all of the report was written. The longest is shorter than the buffer: 4,096 lines of at most 22 characters, and the last.
-fn print_report(file: &[u8]) -> bool {
+// What was printed on standard output: a report with each frame's verdicts, one that says `refused`, or not all of it.
+enum Printed {
+    Verdicts,
+    Refusal,
+    Failed,
+}
+
+fn kind_of(first: u8) -> Printed {
+    if first == b'r' {
+        return Printed::Refusal;
+    }
+    Printed::Verdicts
+}
+
+// The longest report is shorter than the buffer: 4,096 lines of at most 22 characters, and the last.
+fn print_report(file: &[u8]) -> Printed {
     let mut text = [0u8; 131072];
     match file_report::report(file, &mut text) {
         Laying::Laid(length) => {
             if length <= 131072 {
-                return io::write_all(STDOUT_FILENO, &text[..length]);
+                if io::write_all(STDOUT_FILENO, &text[..length]) {
+                    return kind_of(text[0]);
+                }
             }
-            false
+            Printed::Failed
         }
-        Laying::Refused(_) => false,
+        Laying::Refused(_) => Printed::Failed,
     }
 }
 
-fn say(words: &[u8]) {
-    if words.len() > 0 {
-        io::write_all(STDERR_FILENO, b"accept: ");
-        io::write_all(STDERR_FILENO, words);
-    }
-}
-
-// No words are longer than the buffer; a file that is read has none.
+// No words are longer than the buffer.
 fn print_words(file: &[u8]) {
     let mut text = [0u8; 128];
     match file_words::words(file, &mut text) {
         Laying::Laid(length) => {
             if length <= 128 {
-                say(&text[..length]);
+                io::write_all(STDERR_FILENO, b"accept: ");
+                io::write_all(STDERR_FILENO, &text[..length]);
             }
         }
         Laying::Refused(_) => {}
@@ -40,14 +50,16 @@ fn print_words(file: &[u8]) {
 }
 
 fn print_all(file: &[u8]) {
-    if print_report(file) {
-        print_words(file);
-        return;
+    match print_report(file) {
+        Printed::Verdicts => {}
+        Printed::Refusal => print_words(file),
+        Printed::Failed => {
+            io::write_all(
+                STDERR_FILENO,
+                b"accept: error: the report can't be written\n",
+            );
+        }
     }
-    io::write_all(
-        STDERR_FILENO,
-        b"accept: error: the report can't be written\n",
-    );
 }
 
 fn main() {

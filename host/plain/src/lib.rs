@@ -4,3 +4,4 @@ pub mod file;
 pub mod list;
 pub mod matcher;
 pub mod report;
+pub mod words;

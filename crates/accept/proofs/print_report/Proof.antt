@@ -20,11 +20,18 @@ array-share-prefix-text c = search needs
 
 slice-aggregate-write-all : tie.Need-slice-aggregate-write-all
 slice-aggregate-write-all c =
-    let laid = c .before .before .before .before .before .before .report in
-    sym (length-take-le (c .before .before .before .length .given .0 .0) (laid .last .1 .0) (omega (arith, laid .kept .1 .0, c .before .if1 .taken)))
+    let tested = c .before in
+    let laid = tested .before .before .before .before .before .report in
+    sym (length-take-le (tested .before .before .length .given .0 .0) (laid .last .1 .0) (omega (arith, laid .kept .1 .0, tested .if1 .taken)))
 
 write-all-requires : tie.Need-write-all-requires
 write-all-requires c κs = search needs
+
+array-read-kind-of : tie.Need-array-read-kind-of
+array-read-kind-of c = search needs
+
+kind-of-requires : tie.Need-kind-of-requires
+kind-of-requires c κs = search needs
 
 returns : tie.Need-returns
 returns c = search needs
@@ -38,6 +45,9 @@ returns-2 c = search needs
 returns-3 : tie.Need-returns-3
 returns-3 c = search needs
 
+returns-4 : tie.Need-returns-4
+returns-4 c = search needs
+
 pub print-report-spec : {M : Type 1} → statement M
 print-report-spec =
     tie.close
@@ -48,7 +58,10 @@ print-report-spec =
     array-share-prefix-text
     slice-aggregate-write-all
     write-all-requires
+    array-read-kind-of
+    kind-of-requires
     returns
     enum-told
     returns-2
-    returns-3)
+    returns-3
+    returns-4)

@@ -15,16 +15,23 @@ words-requires c κs = search needs
 enum-known-length : tie.Need-enum-known-length
 enum-known-length c = search needs
 
+slice-aggregate-write-all : tie.Need-slice-aggregate-write-all
+slice-aggregate-write-all c = search needs
+
+write-all-requires : tie.Need-write-all-requires
+write-all-requires c κs = search needs
+
 array-share-prefix-text : tie.Need-array-share-prefix-text
 array-share-prefix-text c = search needs
 
-slice-aggregate-say : tie.Need-slice-aggregate-say
-slice-aggregate-say c =
-    let laid = c .before .before .before .before .before .before .words in
-    sym (length-take-le (c .before .before .before .length .given .0 .0) (laid .last .1 .0) (omega (arith, laid .kept .1 .0, c .before .if1 .taken)))
+slice-aggregate-write-all-2 : tie.Need-slice-aggregate-write-all-2
+slice-aggregate-write-all-2 c =
+    let tested = c .before .before .before in
+    let laid = tested .before .before .before .before .before .words in
+    sym (length-take-le (tested .before .before .length .given .0 .0) (laid .last .1 .0) (omega (arith, laid .kept .1 .0, tested .if1 .taken)))
 
-say-requires : tie.Need-say-requires
-say-requires c κs = search needs
+write-all-requires-2 : tie.Need-write-all-requires-2
+write-all-requires-2 c κs = search needs
 
 enum-told : tie.Need-enum-told
 enum-told c = search needs
@@ -45,9 +52,11 @@ print-words-spec =
     slice-aggregate-words
     words-requires
     enum-known-length
+    slice-aggregate-write-all
+    write-all-requires
     array-share-prefix-text
-    slice-aggregate-say
-    say-requires
+    slice-aggregate-write-all-2
+    write-all-requires-2
     enum-told
     returns
     returns-2
