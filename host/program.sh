@@ -18,7 +18,7 @@ take_input() { # [--] [FILE]: it becomes standard input, which `-` is already
     esac
     [ $# -le 1 ] || fail "one file at a time"
     [ $# = 1 ] || [ ! -t 0 ] || wrong_use
-    if [ "${1:--}" != - ]; then
+    if [ "${1--}" != - ]; then
         [ -e "$1" ] || fail "$1: there is no such file"
         [ ! -d "$1" ] || fail "$1 is a directory"
         { exec <"$1"; } 2>/dev/null || fail "$1 can't be read"
