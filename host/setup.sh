@@ -1,7 +1,6 @@
 # Sourced by the scripts beside it: where things are, how to build and run a program, and on a machine that is not
 # x86-64 the means for both. A script that can do without them defines `lack` first, which gets the reason.
-# TWAI_SRC: the folder that holds the driver's src/twai/. RATTLE_LIB_DIR: the folder that holds the archives of
-# the export crates.
+# TWAI_SRC: the folder that holds the driver's src/twai/. RATTLE_LIB_DIR: the folder that holds libchherbolat.a.
 # CARGO_TARGET_DIR: where cargo builds.
 declare -F lack >/dev/null || lack() {
     echo "host: $1" >&2
@@ -11,7 +10,7 @@ declare -F lack >/dev/null || lack() {
 HOST=$(cd "$(dirname "${BASH_SOURCE[0]}")" && pwd)
 ROOT=$(dirname "$HOST")
 export TWAI_SRC=${TWAI_SRC:-$ROOT/../shared/docs/src}
-export RATTLE_LIB_DIR=${RATTLE_LIB_DIR:-$ROOT/target/staticlib}
+export RATTLE_LIB_DIR=${RATTLE_LIB_DIR:-$ROOT/target}
 export CARGO_TARGET_DIR=${CARGO_TARGET_DIR:-$HOST/target}
 export CARGO_NET_OFFLINE=true
 CC=(cc)

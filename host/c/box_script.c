@@ -5,12 +5,19 @@
 #include <stdlib.h>
 #include "chherbolat.h"
 
-#define STATE_LENGTH 1376
 #define SCRIPT_LIMIT (1 << 20)
 
-static const size_t CALL_LENGTH[] = {0, 14, 1, 13, 1, 1 + STATE_LENGTH, 1};
-static const size_t ANSWER_LENGTH[] = {0, 2, 16, 1, 23, 1, STATE_LENGTH};
-static const char *const CALL[] = {"", "arrival", "take", "start", "step", "load", "state"};
+static const struct {
+    const char *name;
+    size_t length, answer_length;
+} CALLS[] = {
+    [CHHERBOLAT_CALL_ARRIVAL] = {"arrival", CHHERBOLAT_CALL_ARRIVAL_LENGTH, CHHERBOLAT_CALL_ARRIVAL_ANSWER_LENGTH},
+    [CHHERBOLAT_CALL_TAKE] = {"take", CHHERBOLAT_CALL_TAKE_LENGTH, CHHERBOLAT_CALL_TAKE_ANSWER_LENGTH},
+    [CHHERBOLAT_CALL_START] = {"start", CHHERBOLAT_CALL_START_LENGTH, CHHERBOLAT_CALL_START_ANSWER_LENGTH},
+    [CHHERBOLAT_CALL_STEP] = {"step", CHHERBOLAT_CALL_STEP_LENGTH, CHHERBOLAT_CALL_STEP_ANSWER_LENGTH},
+    [CHHERBOLAT_CALL_LOAD] = {"load", CHHERBOLAT_CALL_LOAD_LENGTH, CHHERBOLAT_CALL_LOAD_ANSWER_LENGTH},
+    [CHHERBOLAT_CALL_STATE] = {"state", CHHERBOLAT_CALL_STATE_LENGTH, CHHERBOLAT_CALL_STATE_ANSWER_LENGTH},
+};
 
 static void fail(const char *why) {
     fprintf(stderr, "box_script: %s\n", why);
@@ -39,23 +46,23 @@ static void print_bytes(const uint8_t *bytes, size_t length) {
 }
 
 static void print_record(const uint8_t *record) {
-    if (record[0] == 0) {
+    if (record[0] == CHHERBOLAT_RECORD_FRAME) {
         printf("frame ");
-        print_bytes(record + 1, 13);
+        print_bytes(record + 1, CHHERBOLAT_FRAME_LENGTH);
     } else {
-        printf("%s", record[0] == 1 ? "Overrun" : "BusOff");
+        printf("%s", record[0] == CHHERBOLAT_RECORD_OVERRUN ? "Overrun" : "BusOff");
     }
 }
 
 static void print_step(const uint8_t *answer) {
     static const char *const COMMAND[] = {"", "abort", "release"};
-    if (answer[1] == 2) {
+    if (answer[1] == CHHERBOLAT_STEP_FINISHED) {
         printf("finished, transmit wakes %u, error wakes %u, enable ", answer[17], answer[18]);
         print_bytes(answer + 19, 4);
         return;
     }
     printf("%s", answer[1] ? COMMAND[answer[2]] : answer[2] ? COMMAND[answer[2]] : "done");
-    if (answer[1] == 1) {
+    if (answer[1] == CHHERBOLAT_STEP_LOST) {
         printf("%slost ", answer[2] ? ", " : "");
         print_record(answer + 3);
     }
@@ -63,19 +70,20 @@ static void print_step(const uint8_t *answer) {
 
 static void print_answer(int call, const uint8_t *answer) {
     static const char *const ARRIVAL[] = {"stored whole", "a mark", "not recorded"};
-    print_bytes(answer, call == 6 ? 0 : ANSWER_LENGTH[call]);
-    printf("%s%s: ", call == 6 ? "" : "  ", CALL[call]);
-    if (call == 6) {
-        print_bytes(answer, STATE_LENGTH);
+    bool is_state = call == CHHERBOLAT_CALL_STATE;
+    print_bytes(answer, is_state ? 0 : CALLS[call].answer_length);
+    printf("%s%s: ", is_state ? "" : "  ", CALLS[call].name);
+    if (is_state) {
+        print_bytes(answer, CHHERBOLAT_STATE_LENGTH);
     } else if (answer[0] != 0) {
         printf("refused %u", answer[0]);
-    } else if (call == 1) {
+    } else if (call == CHHERBOLAT_CALL_ARRIVAL) {
         printf("%s", ARRIVAL[answer[1]]);
-    } else if (call == 2) {
+    } else if (call == CHHERBOLAT_CALL_TAKE) {
         if (answer[1]) print_record(answer + 2); else printf("nothing");
-    } else if (call == 3) {
+    } else if (call == CHHERBOLAT_CALL_START) {
         printf("started");
-    } else if (call == 4) {
+    } else if (call == CHHERBOLAT_CALL_STEP) {
         print_step(answer);
     }
     printf("\n");
@@ -85,9 +93,8 @@ int main(void) {
     uint8_t *script = calloc(SCRIPT_LIMIT, 1);
     if (!script) fail("no memory");
     size_t length = read_script(script);
-    uint8_t none = 0;
-    chherbolat_answer told = chherbolat_box_script(script, length, &none, 0);
-    size_t needed = told.number == 6 ? told.value : 0;
+    chherbolat_answer told = chherbolat_box_script(script, length, NULL, 0);
+    size_t needed = told.number == CHHERBOLAT_REFUSAL_OUTPUT_TOO_SHORT ? told.value : 0;
     uint8_t *answers = calloc(needed + 1, 1);
     if (!answers) fail("no memory");
     told = chherbolat_box_script(script, length, answers, needed);
@@ -95,8 +102,8 @@ int main(void) {
     const uint8_t *call = script, *answer = answers;
     for (uint64_t i = 0; i < told.value; i++) {
         print_answer(*call, answer);
-        answer += ANSWER_LENGTH[*call];
-        call += CALL_LENGTH[*call];
+        answer += CALLS[*call].answer_length;
+        call += CALLS[*call].length;
     }
     if (call != script + length) {
         printf("the script ends here: what follows is no whole call\n");

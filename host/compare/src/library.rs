@@ -1,10 +1,11 @@
-//! The library's side of the face: what its archives declare (docs/ABI.md).
-use oracle::{answer::Answer, face::Face};
-
-mod files;
-mod filters;
-pub mod lists;
-pub mod receive_box;
+//! The library's side: its functions, as the faces of docs/ABI.md want them.
+use chherbolat::raw::*;
+use oracle::{
+    face::{Face, files::Files, filters::Filters},
+    lists::FromList,
+    receive_box,
+    script::BoxScript,
+};
 
 pub const LIBRARY: Face = Face {
     standard_id_new: chherbolat_standard_id_new,
@@ -22,83 +23,29 @@ pub const LIBRARY: Face = Face {
     identifier: chherbolat_identifier,
     data: chherbolat_data,
     as_slice: chherbolat_as_slice,
-    filters: filters::FILTERS,
+    filters: FILTERS,
     matcher_accepts: chherbolat_matcher_accepts,
-    files: files::FILES,
+    files: FILES,
     transmit: chherbolat_transmit,
     poll: chherbolat_poll,
     receive: chherbolat_receive,
 };
 
-#[link(name = "abi_identifiers", kind = "static")]
-unsafe extern "C" {
-    fn chherbolat_standard_id_new(raw: u16) -> Answer;
-    fn chherbolat_extended_id_new(raw: u32) -> Answer;
-    fn chherbolat_extended_id_standard_id(raw: u32) -> Answer;
-}
+const FILTERS: Filters = Filters {
+    single_standard_filter_new: chherbolat_single_standard_filter_new,
+    single_standard_filter_new_from_code_mask: chherbolat_single_standard_filter_new_from_code_mask,
+    single_extended_filter_new: chherbolat_single_extended_filter_new,
+    single_extended_filter_new_from_code_mask: chherbolat_single_extended_filter_new_from_code_mask,
+    dual_standard_filter_new: chherbolat_dual_standard_filter_new,
+    dual_standard_filter_new_from_code_mask: chherbolat_dual_standard_filter_new_from_code_mask,
+    dual_extended_filter_new: chherbolat_dual_extended_filter_new,
+    dual_extended_filter_new_from_code_mask: chherbolat_dual_extended_filter_new_from_code_mask,
+};
 
-#[link(name = "abi_building", kind = "static")]
-unsafe extern "C" {
-    fn chherbolat_new_from_parameters(
-        extended: bool,
-        id: u32,
-        remote_request: bool,
-        self_reception: bool,
-        dlc: usize,
-        data: *const u8,
-        data_length: usize,
-        frame: *mut u8,
-        frame_length: usize,
-    ) -> Answer;
-    fn chherbolat_new(
-        extended: bool,
-        id: u32,
-        data: *const u8,
-        data_length: usize,
-        frame: *mut u8,
-        frame_length: usize,
-    ) -> Answer;
-    fn chherbolat_new_self_reception(
-        extended: bool,
-        id: u32,
-        data: *const u8,
-        data_length: usize,
-        frame: *mut u8,
-        frame_length: usize,
-    ) -> Answer;
-}
+const FILES: Files =
+    Files { read_file: chherbolat_read_file, write_file: chherbolat_write_file, report: chherbolat_report };
 
-#[link(name = "abi_frame_info", kind = "static")]
-unsafe extern "C" {
-    fn chherbolat_is_extended_format(frame: *const u8, frame_length: usize) -> Answer;
-    fn chherbolat_is_remote_request(frame: *const u8, frame_length: usize) -> Answer;
-    fn chherbolat_is_self_reception(frame: *const u8, frame_length: usize) -> Answer;
-    fn chherbolat_data_length_code(frame: *const u8, frame_length: usize) -> Answer;
-    fn chherbolat_data_length(frame: *const u8, frame_length: usize) -> Answer;
-    fn chherbolat_data_offset(frame: *const u8, frame_length: usize) -> Answer;
-}
+pub const FROM_LIST: FromList = chherbolat_filter_from_list;
 
-#[link(name = "abi_frames", kind = "static")]
-unsafe extern "C" {
-    fn chherbolat_identifier(frame: *const u8, frame_length: usize) -> Answer;
-    fn chherbolat_data(frame: *const u8, frame_length: usize, out: *mut u8, out_length: usize) -> Answer;
-    fn chherbolat_as_slice(frame: *const u8, frame_length: usize, out: *mut u8, out_length: usize) -> Answer;
-}
-
-#[link(name = "abi_matcher", kind = "static")]
-unsafe extern "C" {
-    fn chherbolat_matcher_accepts(
-        kind: u8,
-        registers: *const u8,
-        registers_length: usize,
-        frame: *const u8,
-        frame_length: usize,
-    ) -> Answer;
-}
-
-#[link(name = "abi_decisions", kind = "static")]
-unsafe extern "C" {
-    fn chherbolat_transmit(status: u32, error_passive: bool) -> Answer;
-    fn chherbolat_poll(status: u32, error_passive: bool, in_flight: bool) -> Answer;
-    fn chherbolat_receive(status: u32) -> Answer;
-}
+pub const BOX: (&str, BoxScript) = ("ours", chherbolat_box_script);
+pub const MODEL: (&str, BoxScript) = ("the host's model", receive_box::box_script);

@@ -3,7 +3,7 @@
 //! purpose.
 use std::process::exit;
 
-use compare::{DIFFERENT, UNUSABLE, grouped, library::receive_box::BOX};
+use compare::{DIFFERENT, UNUSABLE, grouped, library::BOX};
 use oracle::{
     course::{Counts, Course},
     script,

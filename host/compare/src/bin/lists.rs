@@ -2,7 +2,7 @@
 //! against every pattern. `model`: on the host's model, which may be a wrong copy on purpose.
 use std::process::exit;
 
-use compare::{DIFFERENT, UNUSABLE, grouped, library::lists::FROM_LIST};
+use compare::{DIFFERENT, UNUSABLE, grouped, library::FROM_LIST};
 use oracle::{
     lists::{Case, Counts, Views, check, model},
     random::Random,

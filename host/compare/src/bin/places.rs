@@ -4,7 +4,7 @@ use std::process::exit;
 
 use compare::{
     DIFFERENT, UNUSABLE, grouped,
-    library::receive_box::{BOX, MODEL},
+    library::{BOX, MODEL},
 };
 use oracle::{
     places::{self, Counts},

@@ -1,7 +1,7 @@
 //! The rows of the filter from a list. The driver has none: on its side stands plain Rust, in one pass.
 use std::{hint::black_box, iter};
 
-use compare::library::lists::FROM_LIST;
+use compare::library::FROM_LIST;
 use oracle::{
     face::filters::REGISTERS_LENGTH,
     lists::{FromList, model},
