@@ -51,7 +51,8 @@ works() {
 }
 
 link_flags=(-C link-arg=--target=x86_64-linux-gnu -C link-arg=-fuse-ld=lld -C "link-arg=--sysroot=$TREE")
-CC=("$TREE/usr/bin/clang" --target=x86_64-linux-gnu -fuse-ld=lld "--sysroot=$TREE")
+# The linker is named where nothing is linked, too.
+CC=("$TREE/usr/bin/clang" --target=x86_64-linux-gnu -fuse-ld=lld "--sysroot=$TREE" -Wno-unused-command-line-argument)
 EMULATOR=("$TREE/usr/bin/qemu-x86_64-static" -L "$TREE")
 export RUSTC=$CROSS/rustc
 export CARGO_BUILD_TARGET=x86_64-unknown-linux-gnu
