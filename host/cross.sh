@@ -1,4 +1,4 @@
-# Sourced by setup.sh and script on a machine that is not x86-64, because the archives are for x86-64 alone: a Rust
+# Sourced by setup.sh and in_c.sh on a machine that is not x86-64, because the archives are for x86-64 alone: a Rust
 # compiler with its library for x86-64, a C compiler, which links, and an emulator. They are Debian's packages, unpacked into a cache, not installed.
 CROSS=${XDG_CACHE_HOME:-$HOME/.cache}/chherbolat/cross
 TREE=$CROSS/root
