@@ -8,9 +8,10 @@
 
 #include "chherbolat.h"
 
-enum { FRAME = 13, REGISTERS = 8, LONGEST = 1 << 16, STATE = 1376, STATE_FIFO_COUNT = 897, STATE_QUEUE_COUNT = 1348 };
-enum { STATE_NEXT_STEP = 1349, STEP_ANSWER = 23, CALL_LOAD = 5, CALL_STATE = 6, NOTICE = 1, LOOK = 2, FINISH = 7 };
-enum { BUS_OFF = 3, OVERRUN = 5, WRITE_THE_FRAME = 2, READ_AND_RELEASE = 3 };
+enum { FRAME = CHHERBOLAT_FRAME_LENGTH, REGISTERS = CHHERBOLAT_REGISTERS_LENGTH, STATE = CHHERBOLAT_STATE_LENGTH };
+/* Where a state tells these, and steps by the numbers that it tells. */
+enum { STATE_FIFO_COUNT = 897, STATE_QUEUE_COUNT = 1348, STATE_NEXT_STEP = 1349, NOTICE = 1, LOOK = 2, FINISH = 7 };
+enum { LONGEST = 1 << 16 };
 /* Bits of the interrupt word, and of the status word. */
 enum { RECEIVE = 0x01, ERROR_WARNING = 0x04, READY = 0x01, IN_ERROR = 0x40, IN_BUS_OFF = 0x80 };
 
@@ -91,13 +92,27 @@ static void print_bytes(const uint8_t *from, size_t length)
     for (size_t i = 0; i < length; i++) printf("%s%02X", i ? " " : "", from[i]);
 }
 
-/* Refusals 8, 9, 10 and 15 carry nothing; so does 1, but for the index of a list's entry. */
-static bool refused(chherbolat_answer got, bool one_carries)
+/* An identifier above its limit carries something in a list alone. */
+static bool carries(uint32_t refusal, bool of_list)
 {
-    uint32_t n = got.number;
-    if (n == 0) return false;
-    printf("refusal %" PRIu32, n);
-    if (n == 1 ? one_carries : n != 8 && n != 9 && n != 10 && n != 15) printf(" carrying %" PRIu64, got.value);
+    switch (refusal) {
+    case CHHERBOLAT_REFUSAL_IDENTIFIER_ABOVE_LIMIT:
+        return of_list;
+    case CHHERBOLAT_REFUSAL_DRAIN_RUNS:
+    case CHHERBOLAT_REFUSAL_NO_DRAIN_RUNS:
+    case CHHERBOLAT_REFUSAL_BROKEN_STATE:
+    case CHHERBOLAT_REFUSAL_EMPTY_LIST:
+        return false;
+    default:
+        return true;
+    }
+}
+
+static bool refused(chherbolat_answer got, bool of_list)
+{
+    if (got.number == 0) return false;
+    printf("refusal %" PRIu32, got.number);
+    if (carries(got.number, of_list)) printf(" carrying %" PRIu64, got.value);
     return true;
 }
 
@@ -300,7 +315,7 @@ static void draw_identifier(void)
     bool extended = format();
     if (!says("byte")) not_understood("byte");
     int byte = (int)number(), length = extended ? 4 : 2, drawn[8] = {-1, -1, -1, -1, -1, -1, -1, -1};
-    for (int bit = 0; bit < (extended ? 29 : 11); bit++) {
+    for (int bit = 0; bit < (extended ? CHHERBOLAT_EXTENDED_WIDTH : CHHERBOLAT_STANDARD_WIDTH); bit++) {
         uint8_t frame[FRAME];
         chherbolat_new(extended, UINT32_C(1) << bit, frame, 0, frame, FRAME);
         int found = only_bit(frame + 1, length);
@@ -332,8 +347,8 @@ static void list(void)
 {
     static uint32_t listed[LONGEST];
     bool extended = format();
-    size_t length = 0, width = extended ? 29 : 11;
-    char pattern[30] = {0};
+    size_t length = 0, width = extended ? CHHERBOLAT_EXTENDED_WIDTH : CHHERBOLAT_STANDARD_WIDTH;
+    char pattern[CHHERBOLAT_EXTENDED_WIDTH + 1] = {0};
     uint8_t registers[REGISTERS];
     while (a_number()) listed[length++] = number_to(UINT32_MAX);
     void *lent = pattern;
@@ -346,8 +361,8 @@ static void list(void)
 
 static uint8_t kind(void)
 {
-    if (says("single")) return 0;
-    if (says("dual")) return 1;
+    if (says("single")) return CHHERBOLAT_KIND_SINGLE;
+    if (says("dual")) return CHHERBOLAT_KIND_DUAL;
     if (!says("kind")) not_understood("single or dual");
     return (uint8_t)number_to(UINT8_MAX);
 }
@@ -372,8 +387,8 @@ static void decision(chherbolat_answer got)
 {
     static const char *const ANSWER[] = {"done", "WouldBlock", "Pending", "BusOff", "TransmissionAborted", "Overrun"};
     static const char *const COMMAND[] = {"no command", "abort", "write the frame", "read and release"};
-    printf("%s, %s", ANSWER[got.value % 256], COMMAND[got.value / 256 % 256]);
-    if (got.value >> 16) printf(", in flight");
+    printf("%s, %s", ANSWER[CHHERBOLAT_DECISION_ANSWER(got.value)], COMMAND[CHHERBOLAT_DECISION_COMMAND(got.value)]);
+    if (CHHERBOLAT_DECISION_IN_FLIGHT(got.value)) printf(", in flight");
 }
 
 static void transmit(void)
@@ -413,32 +428,39 @@ static const uint8_t *answered(const void *from, size_t length, size_t answer_le
 
 static const uint8_t *step(void)
 {
-    return answered("\4", 1, STEP_ANSWER);
+    static const uint8_t from = CHHERBOLAT_CALL_STEP;
+    return answered(&from, 1, CHHERBOLAT_CALL_STEP_ANSWER_LENGTH);
 }
 
 /* The state as it is now; the call that asks for it does not stay in the script. */
 static const uint8_t *state(void)
 {
     static uint8_t told_state[STATE];
-    static const uint8_t ask = CALL_STATE;
+    static const uint8_t ask = CHHERBOLAT_CALL_STATE;
     call(&ask, 1);
     script.length--;
     return memcpy(told_state, answers.bytes + answers.length, STATE);
 }
 
+static const uint8_t *take(void)
+{
+    static const uint8_t from = CHHERBOLAT_CALL_TAKE;
+    return answered(&from, 1, CHHERBOLAT_CALL_TAKE_ANSWER_LENGTH);
+}
+
 static uint8_t start(uint32_t interrupt, uint32_t enable, uint32_t status)
 {
     const uint32_t given[] = {interrupt, enable, status};
-    uint8_t from[13] = {3};
+    uint8_t from[CHHERBOLAT_CALL_START_LENGTH] = {CHHERBOLAT_CALL_START};
     for (int i = 0; i < 12; i++) from[1 + i] = (uint8_t)(given[i / 4] >> (24 - 8 * (i % 4)));
-    return *answered(from, sizeof from, 1);
+    return *answered(from, sizeof from, CHHERBOLAT_CALL_START_ANSWER_LENGTH);
 }
 
 static const uint8_t *arrive(const uint8_t *frame)
 {
-    uint8_t from[1 + FRAME] = {1};
+    uint8_t from[CHHERBOLAT_CALL_ARRIVAL_LENGTH] = {CHHERBOLAT_CALL_ARRIVAL};
     memcpy(from + 1, frame, FRAME);
-    return answered(from, sizeof from, 2);
+    return answered(from, sizeof from, CHHERBOLAT_CALL_ARRIVAL_ANSWER_LENGTH);
 }
 
 static run a_frame(void)
@@ -451,10 +473,10 @@ static run a_frame(void)
 /* The fresh box's state with another number of entries, which are marks. */
 static void load_marks(uint8_t entries)
 {
-    uint8_t from[1 + STATE] = {CALL_LOAD};
+    uint8_t from[CHHERBOLAT_CALL_LOAD_LENGTH] = {CHHERBOLAT_CALL_LOAD};
     memcpy(from + 1, state(), STATE);
     from[1 + STATE_FIFO_COUNT] = entries;
-    answered(from, sizeof from, 1);
+    answered(from, sizeof from, CHHERBOLAT_CALL_LOAD_ANSWER_LENGTH);
 }
 
 static void fresh(void)
@@ -465,7 +487,7 @@ static void fresh(void)
 static void print_arrivals(unsigned times, unsigned answer)
 {
     static const char *const ANSWER[] = {"whole", "mark", "not recorded"};
-    printf("%u %s%s", times, ANSWER[answer], answer == 1 && times > 1 ? "s" : "");
+    printf("%u %s%s", times, ANSWER[answer], answer == CHHERBOLAT_ARRIVAL_MARK && times > 1 ? "s" : "");
 }
 
 /* arrivals N of FRAME, N of FRAME, ..: runs of equal answers. */
@@ -527,9 +549,9 @@ static void finish(void)
     const uint8_t *answer;
     fresh();
     start_given();
-    do answer = step(); while (answer[1] != 2);
+    do answer = step(); while (answer[1] != CHHERBOLAT_STEP_FINISHED);
     uint32_t enable = 0;
-    for (int i = 19; i < STEP_ANSWER; i++) enable = enable << 8 | answer[i];
+    for (int i = 19; i < CHHERBOLAT_CALL_STEP_ANSWER_LENGTH; i++) enable = enable << 8 | answer[i];
     printf("transmit wakes %u, error wakes %u, enable 0x%02" PRIX32, answer[17], answer[18], enable);
 }
 
@@ -547,8 +569,8 @@ static void drain(void)
     start(RECEIVE, 0, READY);
     while (!ended) {
         const uint8_t *answer = step();
-        lost += answer[1] == 1;
-        ended = answer[1] == 2;
+        lost += answer[1] == CHHERBOLAT_STEP_LOST;
+        ended = answer[1] == CHHERBOLAT_STEP_FINISHED;
     }
     printf("%u stored, %u lost, %u left", state()[STATE_QUEUE_COUNT] - queued, lost, state()[STATE_FIFO_COUNT]);
 }
@@ -565,7 +587,7 @@ static void box(void)
         } else if (says("step")) {
             refusal = *step();
         } else if (says("take")) {
-            refusal = *answered("\2", 1, 16);
+            refusal = *take();
         } else {
             load_marks((uint8_t)number_to(UINT8_MAX));
             if (!says("entries")) not_understood("entries");
@@ -578,10 +600,10 @@ static void box(void)
 static const char *status_bit(uint32_t bit)
 {
     uint64_t received = chherbolat_receive(bit).value;
-    if (received % 256 == BUS_OFF) return "bus-off";
-    if (received / 256 == READ_AND_RELEASE) return "ready";
-    if (chherbolat_transmit(bit, false).value / 256 == WRITE_THE_FRAME) return "free";
-    if (chherbolat_receive(READY | bit).value % 256 == OVERRUN) return "miss";
+    if (CHHERBOLAT_DECISION_ANSWER(received) == CHHERBOLAT_ANSWER_BUS_OFF) return "bus-off";
+    if (CHHERBOLAT_DECISION_COMMAND(received) == CHHERBOLAT_COMMAND_READ_AND_RELEASE) return "ready";
+    if (CHHERBOLAT_DECISION_COMMAND(chherbolat_transmit(bit, false).value) == CHHERBOLAT_COMMAND_WRITE) return "free";
+    if (CHHERBOLAT_DECISION_ANSWER(chherbolat_receive(READY | bit).value) == CHHERBOLAT_ANSWER_OVERRUN) return "miss";
     fresh();
     start(ERROR_WARNING, 0, IN_BUS_OFF | bit);
     return state()[STATE_NEXT_STEP] == NOTICE ? "error" : "-";
