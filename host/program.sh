@@ -1,4 +1,5 @@
-# Sourced by ./accept and ./filter: their input, and their program, which is proved and built where that was not done for the sources as they are.
+# Sourced by ./accept, ./filter and ./library: the input of the first two, and the proving and building of what all three make, where that was not done
+# for the sources as they are.
 ROOT=$(dirname "$(dirname "$(readlink -f "${BASH_SOURCE[0]}")")")
 
 fail() { # REASON
@@ -26,11 +27,12 @@ take_input() { # [--] [FILE]: it becomes standard input, which `-` is already
     [ -e /dev/fd/0 ] || fail "standard input is closed"
 }
 
-crates_of() { # PROGRAM: its crate and those that it stands on, from the last to the first; none is listed above them in crates.txt
-    awk -F: -v program="$1" '
+crates_of() { # CRATE...: they and those that they stand on, from the last to the first; none is listed above them in crates.txt
+    awk -F: -v wanted="$*" '
         /^[a-z]/ { crate[++count] = $1; lists[$1] = $2 }
         END {
-            needed[program]
+            split(wanted, first, " ")
+            for (f in first) needed[first[f]]
             for (i = count; i; i--) if (crate[i] in needed) {
                 print crate[i]
                 split(lists[crate[i]], below, " ")
@@ -39,10 +41,14 @@ crates_of() { # PROGRAM: its crate and those that it stands on, from the last to
         }' "$ROOT/crates.txt"
 }
 
-state_of() { # PROGRAM: a digest of the kit and of the sources that the program is made of
+need_rt() {
+    command -v rt >/dev/null || fail "rt, of the Rattle kit, is missing"
+}
+
+state_of() { # CRATE...: a digest of the kit and of the sources that they are made of
     local crate folders=()
     cd "$ROOT" || exit
-    for crate in $(crates_of "$1"); do
+    for crate in $(crates_of "$@"); do
         folders+=("crates/$crate/src" "crates/$crate/specs" "crates/$crate/proofs")
     done
     { rt version && cat crates.txt && find "${folders[@]}" -type f -print0 2>/dev/null | sort -z | xargs -0 sha256sum; } | sha256sum
@@ -66,7 +72,7 @@ say_progress() { # COUNT: passes on what rt says; standard error says how many o
 
 prove_program() { # PROGRAM
     local program=$ROOT/target/bin/$1 state log
-    command -v rt >/dev/null || fail "rt, of the Rattle kit, is missing"
+    need_rt
     state=$(state_of "$1")
     [ ! -x "$program" ] || [ "$(cat "$program.state" 2>/dev/null)" != "$state" ] || return 0
     log=$(
