@@ -19,12 +19,9 @@ use Rattle.filter_list.specs.declared.Listed.{Listed}
 use Rattle.filter_list.proofs.Pattern.{down-length}
 use Rattle.filter_report.specs.Lines.{Found, listed, foundIn}
 use Rattle.filter_report.specs.Text.{noneText, filterText, listText}
-use Rattle.filter_report.specs.declared.Reading.{Reading}
-use Rattle.filter_report.specs.declared.Reading.the-variants.{All, AboveAt, NotANumberAt}
-use Rattle.filter_report.specs.Parts.{readingWithin, throughIn}
+use Rattle.filter_report.specs.declared.lines.Reading.{Reading}
+use Rattle.filter_report.specs.Parts.{readingFound, readingWithin, throughIn}
 use Rattle.filter_report.proofs.Within.{AllWithin, found-within}
-
--- The answer to a list that is not empty and within its limit, and what stands on the page for it. Assumes nothing.
 
 pub width-small : (extended : Bool) → widthOf extended ≤ 29
 width-small true = omega arith
@@ -60,7 +57,7 @@ module _ (extended : Bool) (list : List ℕ) (some : 0 < length list) (within : 
       ap (take (widthOf extended)) laid ∙ take-at (patternOf (widthOf extended) list) _ (widthOf extended) (pattern-long extended list)
 
 -- the same text in other words
-pub put-as : (t u page now : List ℕ) (r : ℕ) → t ≡ u → (r ≡ length t) × (now ≡ laidFirst t page) × (r ≤ 128) → (r ≡ length u) × (now ≡ laidFirst u page) × (r ≤ 128)
+pub put-as : (t u page now : List ℕ) (r : ℕ) → t ≡ u → (r ≡ length t) × (now ≡ laidFirst t page) × (r ≤ 512) → (r ≡ length u) × (now ≡ laidFirst u page) × (r ≤ 512)
 put-as t u page now r e q = (q .0 ∙ ap length e, q .1 ∙ ap (λ (l : List ℕ). laidFirst l page) e, q .2)
 
 pub list-none : (extended : Bool) (list : List ℕ) → length list ≡ 0 → noneText ≡ listText extended list
@@ -72,17 +69,15 @@ list-some extended [] h = absurd (h refl)
 list-some extended (n ∷ list) h = refl
 
 -- a reading by its case
-pub all-count : (r : Reading) (count n : ℕ) → r ≡ All count → readingWithin r n → count ≤ n
-all-count r count n e h = rw e at h
+pub within-by : (r s : Reading) (size n : ℕ) → r ≡ s → readingWithin r size n → readingWithin s size n
+within-by r s size n e h = rw e at h
 
-pub above-count : (r : Reading) (k n : ℕ) → r ≡ AboveAt k → readingWithin r n → k ≤ 65537
-above-count r k n e h = rw e at h
+pub found-by : (r s : Reading) (l limit : ℕ) (hex : Bool) (text list : List ℕ) → r ≡ s → l ≡ limit → readingFound r text list ≡ foundIn l hex text
+    → readingFound s text list ≡ foundIn limit hex text
+found-by r s l limit hex text list e p f = sym (ap (λ (q : Reading). readingFound q text list) e) ∙ f ∙ ap (λ (n : ℕ). foundIn n hex text) p
 
-pub wrong-count : (r : Reading) (k n : ℕ) → r ≡ NotANumberAt k → readingWithin r n → k ≤ 65537
-wrong-count r k n e h = rw e at h
-
-pub all-within : (limit : ℕ) (text list : List ℕ) → listed list ≡ foundIn limit text → firstAbove limit list ≡ length list
-all-within limit text list e = by (foundIn limit text) (sym e) (found-within limit text)
+pub all-within : (limit : ℕ) (hex : Bool) (text list : List ℕ) → listed list ≡ foundIn limit hex text → firstAbove limit list ≡ length list
+all-within limit hex text list e = by (foundIn limit hex text) (sym e) (found-within limit hex text)
   where
     by : (f : Found) → f ≡ listed list → AllWithin limit f → AllWithin limit (listed list)
     by f p a = rw p at a

@@ -7,14 +7,45 @@ use lib.Seq.{take-suc, length-take-le}
 use native.Mathlib.Numerals.{add-one}
 use native.Mathlib.Omega.{arith}
 use Rattle.laws.specs.Laid.{laidFirst, laid}
-use Rattle.laws.proofs.Laid.{laid-then, set-then, laid-none}
-use Rattle.text.specs.Decimal.{decimal}
-use Rattle.text.proofs.Decimal.{decimal-long}
-use Rattle.filter_report.specs.Text.{hexDigit, hexOf, patternText, registersText, identifiersText, linesText, lineText, faultText}
+use Rattle.laws.proofs.Laid.{length-laid, laid-then, set-then, laid-none}
+use Rattle.text.specs.Put.{placeBehind, putAt}
+use Rattle.text.proofs.Put.{place-put, text-put}
+use Rattle.filter_report.specs.Text.{hexDigit, hexOf}
 
--- one text behind another
-pub then-put : (a b page was now : List ℕ) (at : ℕ) → at ≡ length a → was ≡ laidFirst a page → now ≡ laid at b was → now ≡ laidFirst (a ++ b) page
-then-put a b page was now at e w n = n ∙ ap (laid at b) w ∙ laid-then at 0 a b page (omega (arith, e)) (omega arith)
+-- a page with a text of at most so many characters from a place on, and the place behind it
+pub record On (from most : ℕ) (text page : List ℕ) (place : ℕ) (now : List ℕ) : Type 0 where
+  pub ends : place ≡ from + length text
+  pub shows : now ≡ laid from text page
+  pub short : length text ≤ most
+  pub long : length now ≡ length page
+
+pub on-none : (from : ℕ) (page : List ℕ) → On from 0 [] page from page
+on-none from page = record { ends = omega arith; shows = sym (laid-none from page); short = omega arith; long = refl }
+
+-- one text more
+module _ {from most : ℕ} {a page : List ℕ} {at : ℕ} {was : List ℕ} (on : On from most a page at was) (more : ℕ) (b : List ℕ) (few : length b ≤ more) (room : from + (most + more) ≤ length page) where
+  fits : at + length b ≤ length was
+  fits = omega (arith, few, room, on .ends, on .short, on .long)
+
+  pub on-laid : (r : ℕ) (now : List ℕ) → r ≡ at + length b → now ≡ laid at b was → On from (most + more) (a ++ b) page r now
+  on-laid r now e n = record {
+    ends = omega (arith, e, on .ends, length-append a b);
+    shows = n ∙ ap (laid at b) (on .shows) ∙ laid-then at from a b page (on .ends) (omega arith);
+    short = omega (arith, length-append a b, few, on .short);
+    long = ap length n ∙ length-laid at b was (fits) ∙ on .long;
+  }
+
+  pub on-put : (r : ℕ) (now : List ℕ) → r ≡ placeBehind at b was → now ≡ putAt at b was → On from (most + more) (a ++ b) page r now
+  on-put r now e n = on-laid r now (place-put at r b was e (fits)) (text-put at b was now n (fits))
+
+-- the text in other words
+pub on-as : {from most : ℕ} {t page : List ℕ} {r : ℕ} {now : List ℕ} (u : List ℕ) → t ≡ u → On from most t page r now → (r ≡ from + length u) × (now ≡ laid from u page)
+on-as {from} {most} {t} {page} {r} {now} u e on = (on .ends ∙ ap (λ (l : List ℕ). from + length l) e, on .shows ∙ ap (λ (l : List ℕ). laid from l page) e)
+
+-- in the front of the page
+pub on-first : {most : ℕ} {t page : List ℕ} {r : ℕ} {now : List ℕ} (u : List ℕ) → t ≡ u → most ≤ 512 → On 0 most t page r now
+    → (r ≡ length u) × (now ≡ laidFirst u page) × (r ≤ 512)
+on-first {most} {t} {page} {r} {now} u e few on = (omega (arith, on .ends, ap length e), on .shows ∙ ap (λ (l : List ℕ). laidFirst l page) e, omega (arith, on .ends, on .short, few))
 
 -- ---- bytes in hexadecimal
 hex-more : (a : List ℕ) (byte : ℕ) → hexOf (a ++ (byte ∷ [])) ≡ (hexOf a ++ (hexDigit (byte / 16) ∷ [])) ++ (hexDigit (byte % 16) ∷ [])
@@ -41,66 +72,3 @@ hex-turn at i x y bytes page now h room e ex ey =
     ap (λ (l : List ℕ). set l (at + 2 * i + 1) y) one
     ∙ set-then (at + 2 * i + 1) y at (front ++ (x ∷ [])) page (omega (arith, long, length-append front (x ∷ []))) (omega arith)
     ∙ ap (λ (l : List ℕ). laid at l page) (ap₂ (λ (a b : ℕ). (front ++ (a ∷ [])) ++ (b ∷ [])) ex ey ∙ sym (hex-more (take i bytes) (getD bytes i 0)) ∙ ap hexOf (sym (take-suc bytes i 0 h) ∙ ap (λ (n : ℕ). take n bytes) (sym (add-one i))))
-
--- ---- the text of a line at fault, and the lines of a filter
-pub fault-put : (number first second third : ℕ) (fault page a b d : List ℕ) → number ≤ 65537 → length fault ≤ 100
-    → first ≡ 0 + length lineText → a ≡ laid 0 lineText page
-    → second ≡ first + length (decimal number) → b ≡ laid first (decimal number) a
-    → third ≡ second + length fault → d ≡ laid second fault b
-    → (third ≡ length (faultText number fault)) × (d ≡ laidFirst (faultText number fault) page) × (third ≤ 128)
-unfolding faultText
-fault-put number first second third fault page a b d few short e₁ p₁ e₂ p₂ e₃ p₃ =
-    let two = then-put lineText (decimal number) page a b first (omega (arith, e₁)) p₁ p₂ in
-    let three = then-put (lineText ++ decimal number) fault page b d second (omega (arith, e₁, e₂, length-append lineText (decimal number))) two p₃ in
-    let long = decimal-long 4 number (omega (arith, few)) in (
-      omega (arith, e₁, e₂, e₃, length-append lineText (decimal number ++ fault), length-append (decimal number) fault),
-      three ∙ ap (λ (t : List ℕ). laidFirst t page) (append-assoc lineText (decimal number) fault),
-      omega (arith, e₁, e₂, e₃, long, short),
-    )
-
-module _ (pattern registers page : List ℕ) (through : ℕ) (r₁ r₂ r₃ r₄ r₅ r₆ r₇ : ℕ) (p₁ p₂ p₃ p₄ p₅ p₆ p₇ : List ℕ) where
-  t₂ : List ℕ
-  t₂ = patternText ++ pattern
-
-  t₃ : List ℕ
-  t₃ = t₂ ++ registersText
-
-  t₄ : List ℕ
-  t₄ = t₃ ++ hexOf registers
-
-  t₅ : List ℕ
-  t₅ = t₄ ++ identifiersText
-
-  t₆ : List ℕ
-  t₆ = t₅ ++ decimal through
-
-  whole : t₆ ++ (10 ∷ []) ≡ linesText pattern registers through
-  unfolding t₂ t₃ t₄ t₅ t₆ linesText
-  whole = simp append-assoc
-
-  pub lines-put : length pattern ≤ 29 → length registers ≤ 8 → through < 2 ^ 32
-      → r₁ ≡ 0 + 8 → p₁ ≡ laid 0 patternText page
-      → r₂ ≡ r₁ + length pattern → p₂ ≡ laid r₁ pattern p₁
-      → r₃ ≡ r₂ + 11 → p₃ ≡ laid r₂ registersText p₂
-      → r₄ ≡ r₃ + 2 * length registers → p₄ ≡ laid r₃ (hexOf registers) p₃
-      → r₅ ≡ r₄ + 13 → p₅ ≡ laid r₄ identifiersText p₄
-      → r₆ ≡ r₅ + length (decimal through) → p₆ ≡ laid r₅ (decimal through) p₅
-      → r₇ ≡ r₆ + 1 → p₇ ≡ laid r₆ (10 ∷ []) p₆
-      → (r₇ ≡ length (linesText pattern registers through)) × (p₇ ≡ laidFirst (linesText pattern registers through) page) × (r₇ ≤ 128)
-  unfolding t₂ t₃ t₄ t₅ t₆
-  lines-put short few small e₁ q₁ e₂ q₂ e₃ q₃ e₄ q₄ e₅ q₅ e₆ q₆ e₇ q₇ =
-      let l₂ : r₂ ≡ length t₂ = omega (arith, e₁, e₂, length-append patternText pattern) in
-      let l₃ : r₃ ≡ length t₃ = omega (arith, l₂, e₃, length-append t₂ registersText) in
-      let l₄ : r₄ ≡ length t₄ = omega (arith, l₃, e₄, length-append t₃ (hexOf registers), hex-long registers) in
-      let l₅ : r₅ ≡ length t₅ = omega (arith, l₄, e₅, length-append t₄ identifiersText) in
-      let l₆ : r₆ ≡ length t₆ = omega (arith, l₅, e₆, length-append t₅ (decimal through)) in
-      let w₂ = then-put patternText pattern page p₁ p₂ r₁ (omega (arith, e₁)) q₁ q₂ in
-      let w₃ = then-put t₂ registersText page p₂ p₃ r₂ l₂ w₂ q₃ in
-      let w₄ = then-put t₃ (hexOf registers) page p₃ p₄ r₃ l₃ w₃ q₄ in
-      let w₅ = then-put t₄ identifiersText page p₄ p₅ r₄ l₄ w₄ q₅ in
-      let w₆ = then-put t₅ (decimal through) page p₅ p₆ r₅ l₅ w₅ q₆ in
-      let w₇ = then-put t₆ (10 ∷ []) page p₆ p₇ r₆ l₆ w₆ q₇ in (
-        omega (arith, l₆, e₇, length-append t₆ (10 ∷ []), ap length whole),
-        w₇ ∙ ap (λ (t : List ℕ). laidFirst t page) whole,
-        omega (arith, e₁, e₂, e₃, e₄, e₅, e₆, e₇, short, few, decimal-long 9 through (omega (arith, small))),
-      )

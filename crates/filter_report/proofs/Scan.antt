@@ -9,10 +9,8 @@ use lib.Seq.{drop-cons, getD-drop}
 use native.Mathlib.Numerals.{add-one}
 use native.Mathlib.Omega.{arith}
 use borrow.Author.Tests.{lt-ltb, le-ltb, lt-leb, eq-eqb, ne-eqb}
-use Rattle.filter_report.specs.Line.{isBlank, ends, unblanked, digitOf, baseOf, judged, numberFrom, numberOf, isHex}
-use Rattle.filter_report.specs.declared.Line.the-variants.{NotANumber}
-
--- A line read from left to right: each definition by the character at a place. Assumes nothing.
+use Rattle.filter_report.specs.Line.{isBlank, ends, closes, unblanked, digitOf, baseOf, judged, numberFrom, numberOf, isHex}
+use Rattle.filter_report.specs.declared.line.Line.the-variants.{NotANumber}
 
 -- the rest of a line by its first character
 pub at-place : (line : List ℕ) (i : ℕ) → i < length line → drop i line ≡ getD line i 0 ∷ drop (i + 1) line
@@ -42,28 +40,37 @@ module _ (line : List ℕ) (i : ℕ) (h : i < length line) where
   unfolding unblanked
   unblanked-blank e = ap unblanked (at-place line i h) ∙ rw e
 
-  pub number-digit : (limit : ℕ) (hex : Bool) (n : ℕ) → digitOf (getD line i 0) < baseOf hex
-      → numberFrom limit hex n (drop i line) ≡ numberFrom limit hex (baseOf hex * n + digitOf (getD line i 0)) (drop (i + 1) line)
-  unfolding numberFrom
-  number-digit limit hex n d = ap (numberFrom limit hex n) (at-place line i h) ∙ rw (lt-ltb (digitOf (getD line i 0)) (baseOf hex) d)
+  pub closes-mark : (hex : Bool) → getD line i 0 ≡ 35 → closes hex (drop i line) ≡ hex
+  unfolding closes
+  closes-mark hex e = rw (at-place line i h, eq-eqb (getD line i 0) 35 e)
 
-  pub number-stop : (limit : ℕ) (hex : Bool) (n : ℕ) → baseOf hex ≤ digitOf (getD line i 0)
-      → numberFrom limit hex n (drop i line) ≡ cond (ends (drop i line)) (judged limit n) NotANumber
-  unfolding numberFrom
-  number-stop limit hex n d =
-      let stop : numberFrom limit hex n (getD line i 0 ∷ drop (i + 1) line) ≡ cond (ends (getD line i 0 ∷ drop (i + 1) line)) (judged limit n) NotANumber = rw (le-ltb (digitOf (getD line i 0)) (baseOf hex) d) in
-      ap (numberFrom limit hex n) (at-place line i h) ∙ stop ∙ ap (λ (l : List ℕ). cond (ends l) (judged limit n) NotANumber) (sym (at-place line i h))
+  pub closes-other : (hex : Bool) → (getD line i 0 ≡ 35 → ⊥) → closes hex (drop i line) ≡ ends (drop i line)
+  unfolding closes
+  closes-other hex n = ap (closes hex) (at-place line i h) ∙ rw (ne-eqb (getD line i 0) 35 n) (ap ends (sym (at-place line i h)))
 
   first : getD (drop i line) 0 0 ≡ getD line i 0
   first = getD-drop i line 0 0 ∙ ap (λ (n : ℕ). getD line n 0) {x = i + 0} {y = i} (omega arith)
 
-  pub number-first : (limit : ℕ) (hex : Bool) → digitOf (getD line i 0) < baseOf hex → numberOf limit hex (drop i line) ≡ numberFrom limit hex 0 (drop i line)
-  unfolding numberOf
-  number-first limit hex d = rw (first, lt-ltb (digitOf (getD line i 0)) (baseOf hex) d)
+  module _ (limit : ℕ) (hex sixteen : Bool) where
+    pub number-digit : (n : ℕ) → digitOf (getD line i 0) < baseOf sixteen
+        → numberFrom limit hex sixteen n (drop i line) ≡ numberFrom limit hex sixteen (baseOf sixteen * n + digitOf (getD line i 0)) (drop (i + 1) line)
+    unfolding numberFrom
+    number-digit n d = ap (numberFrom limit hex sixteen n) (at-place line i h) ∙ rw (lt-ltb (digitOf (getD line i 0)) (baseOf sixteen) d)
 
-  pub number-none : (limit : ℕ) (hex : Bool) → baseOf hex ≤ digitOf (getD line i 0) → numberOf limit hex (drop i line) ≡ NotANumber
-  unfolding numberOf
-  number-none limit hex d = rw (first, le-ltb (digitOf (getD line i 0)) (baseOf hex) d)
+    pub number-stop : (n : ℕ) → baseOf sixteen ≤ digitOf (getD line i 0)
+        → numberFrom limit hex sixteen n (drop i line) ≡ cond (closes hex (drop i line)) (judged limit n) NotANumber
+    unfolding numberFrom
+    number-stop n d =
+        let stop : numberFrom limit hex sixteen n (getD line i 0 ∷ drop (i + 1) line) ≡ cond (closes hex (getD line i 0 ∷ drop (i + 1) line)) (judged limit n) NotANumber = rw (le-ltb (digitOf (getD line i 0)) (baseOf sixteen) d) in
+        ap (numberFrom limit hex sixteen n) (at-place line i h) ∙ stop ∙ ap (λ (l : List ℕ). cond (closes hex l) (judged limit n) NotANumber) (sym (at-place line i h))
+
+    pub number-first : digitOf (getD line i 0) < baseOf sixteen → numberOf limit hex sixteen (drop i line) ≡ numberFrom limit hex sixteen 0 (drop i line)
+    unfolding numberOf
+    number-first d = rw (first, lt-ltb (digitOf (getD line i 0)) (baseOf sixteen) d)
+
+    pub number-none : baseOf sixteen ≤ digitOf (getD line i 0) → numberOf limit hex sixteen (drop i line) ≡ NotANumber
+    unfolding numberOf
+    number-none d = rw (first, le-ltb (digitOf (getD line i 0)) (baseOf sixteen) d)
 
 pub ends-nil : (line : List ℕ) (i : ℕ) → length line ≤ i → ends (drop i line) ≡ true
 unfolding ends
@@ -73,35 +80,36 @@ pub unblanked-nil : (line : List ℕ) (i : ℕ) → length line ≤ i → unblan
 unfolding unblanked
 unblanked-nil line i h = rw (past-end line i h)
 
-pub number-end : (line : List ℕ) (i limit : ℕ) (hex : Bool) (n : ℕ) → length line ≤ i → numberFrom limit hex n (drop i line) ≡ judged limit n
-unfolding numberFrom
-number-end line i limit hex n h = rw (past-end line i h)
+module _ (limit : ℕ) (hex : Bool) where
+  pub number-end : (line : List ℕ) (i : ℕ) (sixteen : Bool) (n : ℕ) → length line ≤ i → numberFrom limit hex sixteen n (drop i line) ≡ judged limit n
+  unfolding numberFrom
+  number-end line i sixteen n h = rw (past-end line i h)
 
-pub number-nil : (line : List ℕ) (i limit : ℕ) (hex : Bool) → length line ≤ i → numberOf limit hex (drop i line) ≡ NotANumber
-unfolding numberOf digitOf
-number-nil line i limit true h = rw (past-end line i h)
-number-nil line i limit false h = rw (past-end line i h)
+  pub number-nil : (line : List ℕ) (i : ℕ) (sixteen : Bool) → length line ≤ i → numberOf limit hex sixteen (drop i line) ≡ NotANumber
+  unfolding numberOf digitOf
+  number-nil line i true h = rw (past-end line i h)
+  number-nil line i false h = rw (past-end line i h)
 
--- two numbers above the limit are above it with any digits behind them
-pub above-same : (limit : ℕ) (hex : Bool) (m n : ℕ) (line : List ℕ) → limit < m → limit < n → numberFrom limit hex m line ≡ numberFrom limit hex n line
-unfolding numberFrom
-above-same limit hex m n [] hm hn = rw (lt-leb m limit hm, lt-leb n limit hn)
-above-same limit hex m n (c ∷ line) hm hn =
-    by (ltb (digitOf c) (baseOf hex)) (above-same limit hex (baseOf hex * m + digitOf c) (baseOf hex * n + digitOf c) line (more hex m hm) (more hex n hn))
-  where
-    more : (b : Bool) (k : ℕ) → limit < k → limit < baseOf b * k + digitOf c
-    more true k h = omega arith
-    more false k h = omega arith
+  -- two numbers above the limit are above it with any digits behind them
+  above-same : (sixteen : Bool) (m n : ℕ) (line : List ℕ) → limit < m → limit < n → numberFrom limit hex sixteen m line ≡ numberFrom limit hex sixteen n line
+  unfolding numberFrom
+  above-same sixteen m n [] hm hn = rw (lt-leb m limit hm, lt-leb n limit hn)
+  above-same sixteen m n (c ∷ line) hm hn =
+      by (ltb (digitOf c) (baseOf sixteen)) (above-same sixteen (baseOf sixteen * m + digitOf c) (baseOf sixteen * n + digitOf c) line (more sixteen m hm) (more sixteen n hn))
+    where
+      more : (b : Bool) (k : ℕ) → limit < k → limit < baseOf b * k + digitOf c
+      more true k h = omega arith
+      more false k h = omega arith
 
-    by : (b : Bool) → numberFrom limit hex (baseOf hex * m + digitOf c) line ≡ numberFrom limit hex (baseOf hex * n + digitOf c) line
-        → cond b (numberFrom limit hex (baseOf hex * m + digitOf c) line) (cond (ends (c ∷ line)) (judged limit m) NotANumber)
-        ≡ cond b (numberFrom limit hex (baseOf hex * n + digitOf c) line) (cond (ends (c ∷ line)) (judged limit n) NotANumber)
-    by true e = e
-    by false e = rw (lt-leb m limit hm, lt-leb n limit hn)
+      by : (b : Bool) → numberFrom limit hex sixteen (baseOf sixteen * m + digitOf c) line ≡ numberFrom limit hex sixteen (baseOf sixteen * n + digitOf c) line
+          → cond b (numberFrom limit hex sixteen (baseOf sixteen * m + digitOf c) line) (cond (closes hex (c ∷ line)) (judged limit m) NotANumber)
+          ≡ cond b (numberFrom limit hex sixteen (baseOf sixteen * n + digitOf c) line) (cond (closes hex (c ∷ line)) (judged limit n) NotANumber)
+      by true e = e
+      by false e = rw (lt-leb m limit hm, lt-leb n limit hn)
 
-pub grown-above : (limit : ℕ) (hex : Bool) (n digit : ℕ) (line : List ℕ) → limit < n → numberFrom limit hex (baseOf hex * n + digit) line ≡ numberFrom limit hex n line
-grown-above limit true n digit line h = above-same limit true (16 * n + digit) n line (omega arith) h
-grown-above limit false n digit line h = above-same limit false (10 * n + digit) n line (omega arith) h
+  pub grown-above : (sixteen : Bool) (n digit : ℕ) (line : List ℕ) → limit < n → numberFrom limit hex sixteen (baseOf sixteen * n + digit) line ≡ numberFrom limit hex sixteen n line
+  grown-above true n digit line h = above-same true (16 * n + digit) n line (omega arith) h
+  grown-above false n digit line h = above-same false (10 * n + digit) n line (omega arith) h
 
 -- whether a word begins with `0x`
 module _ (line : List ℕ) (i : ℕ) where

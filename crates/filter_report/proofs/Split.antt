@@ -12,12 +12,10 @@ use native.Mathlib.Omega.{arith}
 use borrow.Author.Tests.{le-leb, lt-leb, eq-eqb, ne-eqb}
 use Rattle.filter_report.specs.Line.{lineOf, ends}
 use Rattle.filter_report.specs.Lines.{onto, linesOf, Found, listed, aboveAt, wrongAt, foundBy, foundFrom, foundIn}
-use Rattle.filter_report.specs.declared.Line.{Line}
-use Rattle.filter_report.specs.declared.Line.the-variants.{Nothing, Identifier, Above, NotANumber}
-use Rattle.filter_report.specs.Parts.{lineLength, readingFound, readingWithin, identifiersOf, faulty, faultAt}
+use Rattle.filter_report.specs.declared.line.Line.{Line}
+use Rattle.filter_report.specs.declared.line.Line.the-variants.{Nothing, Identifier, Above, NotANumber}
+use Rattle.filter_report.specs.Parts.{lineLength, partOf, readingFound, Placed, readingWithin, identifiersOf, faulty, faultAt}
 use Rattle.filter_report.proofs.Scan.{at-place, past-end}
-
--- A text by its lines: the first, up to its newline, and those behind it; and what is found in them, one line more at a time. Assumes nothing.
 
 -- ---- the end of a line
 module _ (text : List ℕ) (i : ℕ) where
@@ -96,58 +94,60 @@ lines-turn text at end h e = rw (le-leb at (length text) h) (elim (decLt end (le
 -- identifiers in front
 abbrev pub behind : List ℕ → Found → Found
 behind front (listed list) = listed (front ++ list)
-behind front (aboveAt k) = aboveAt k
-behind front (wrongAt k) = wrongAt k
+behind front (aboveAt k line) = aboveAt k line
+behind front (wrongAt k line) = wrongAt k line
 
-pub found-start : (limit : ℕ) (text : List ℕ) → foundIn limit text ≡ behind [] (foundFrom limit 1 (linesFrom text 0))
+pub found-start : (limit : ℕ) (hex : Bool) (text : List ℕ) → foundIn limit hex text ≡ behind [] (foundFrom limit hex 1 (linesFrom text 0))
 unfolding foundIn
-found-start limit text = rw (le-leb 0 (length text) (omega arith)) (same (foundFrom limit 1 (linesOf text)))
+found-start limit hex text = rw (le-leb 0 (length text) (omega arith)) (same (foundFrom limit hex 1 (linesOf text)))
   where
     same : (f : Found) → f ≡ behind [] f
     same (listed list) = refl
-    same (aboveAt k) = refl
-    same (wrongAt k) = refl
+    same (aboveAt k line) = refl
+    same (wrongAt k line) = refl
 
-module _ (limit k : ℕ) (front line : List ℕ) (lines : List (List ℕ)) where
+module _ (limit : ℕ) (hex : Bool) (k : ℕ) (front line : List ℕ) (lines : List (List ℕ)) where
   -- a line that is not at fault
-  pub found-kept : faulty (lineOf limit line) ≡ false
-      → behind front (foundFrom limit k (line ∷ lines)) ≡ behind (front ++ identifiersOf (lineOf limit line)) (foundFrom limit (suc k) lines)
+  pub found-kept : faulty (lineOf limit hex line) ≡ false
+      → behind front (foundFrom limit hex k (line ∷ lines)) ≡ behind (front ++ identifiersOf (lineOf limit hex line)) (foundFrom limit hex (suc k) lines)
   unfolding foundFrom
-  found-kept e = by (lineOf limit line) (foundFrom limit (suc k) lines) e
+  found-kept e = by (lineOf limit hex line) (foundFrom limit hex (suc k) lines) e
     where
-      by : (l : Line) (rest : Found) → faulty l ≡ false → behind front (foundBy k l rest) ≡ behind (front ++ identifiersOf l) rest
+      by : (l : Line) (rest : Found) → faulty l ≡ false → behind front (foundBy k line l rest) ≡ behind (front ++ identifiersOf l) rest
       by Nothing rest e = ap (λ (f : List ℕ). behind f rest) (sym (append-nil front))
       by (Identifier n) (listed list) e = ap listed (sym (append-assoc front (n ∷ []) list))
-      by (Identifier n) (aboveAt j) e = refl
-      by (Identifier n) (wrongAt j) e = refl
+      by (Identifier n) (aboveAt j at) e = refl
+      by (Identifier n) (wrongAt j at) e = refl
       by Above rest e = absurd (false≢true (sym e))
       by NotANumber rest e = absurd (false≢true (sym e))
 
-  pub found-fault : (list : List ℕ) → faulty (lineOf limit line) ≡ true → readingFound (faultAt k (lineOf limit line)) list ≡ behind front (foundFrom limit k (line ∷ lines))
+  pub found-fault : (text list : List ℕ) (from end : ℕ) → line ≡ partOf text from end → faulty (lineOf limit hex line) ≡ true
+      → readingFound (faultAt k from end (lineOf limit hex line)) text list ≡ behind front (foundFrom limit hex k (line ∷ lines))
   unfolding foundFrom
-  found-fault list e = by (lineOf limit line) (foundFrom limit (suc k) lines) e
+  found-fault text list from end part e = by (lineOf limit hex line) (foundFrom limit hex (suc k) lines) e
     where
-      by : (l : Line) (rest : Found) → faulty l ≡ true → readingFound (faultAt k l) list ≡ behind front (foundBy k l rest)
+      by : (l : Line) (rest : Found) → faulty l ≡ true → readingFound (faultAt k from end l) text list ≡ behind front (foundBy k line l rest)
       by Nothing rest e = absurd (false≢true e)
       by (Identifier n) rest e = absurd (false≢true e)
-      by Above rest e = refl
-      by NotANumber rest e = refl
+      by Above rest e = ap (aboveAt k) (sym part)
+      by NotANumber rest e = ap (wrongAt k) (sym part)
 
-pub fault-within : (k n : ℕ) (line : Line) → k ≤ 65537 → readingWithin (faultAt k line) n
-fault-within k n Nothing h = h
-fault-within k n (Identifier m) h = h
-fault-within k n Above h = h
-fault-within k n NotANumber h = h
+pub fault-within : (k from end size n : ℕ) (line : Line) → Placed k from end size → readingWithin (faultAt k from end line) size n
+fault-within k from end size n Nothing h = h
+fault-within k from end size n (Identifier m) h = h
+fault-within k from end size n Above h = h
+fault-within k from end size n NotANumber h = h
 
-pub found-end : (limit k : ℕ) (front text : List ℕ) (at : ℕ) → length text < at → behind front (foundFrom limit k (linesFrom text at)) ≡ listed front
+pub found-end : (limit : ℕ) (hex : Bool) (k : ℕ) (front text : List ℕ) (at : ℕ) → length text < at
+    → behind front (foundFrom limit hex k (linesFrom text at)) ≡ listed front
 unfolding foundFrom
-found-end limit k front text at h = rw (lt-leb at (length text) h) (ap listed (append-nil front))
+found-end limit hex k front text at h = rw (lt-leb at (length text) h) (ap listed (append-nil front))
 
 -- an identifier has a character
-pub identifier-long : (limit : ℕ) (line : List ℕ) → length (identifiersOf (lineOf limit line)) ≤ length line
+identifier-long : (limit : ℕ) (hex : Bool) (line : List ℕ) → length (identifiersOf (lineOf limit hex line)) ≤ length line
 unfolding lineOf ends
-identifier-long limit [] = omega arith
-identifier-long limit (c ∷ line) = by (lineOf limit (c ∷ line))
+identifier-long limit hex [] = omega arith
+identifier-long limit hex (c ∷ line) = by (lineOf limit hex (c ∷ line))
   where
     by : (l : Line) → length (identifiersOf l) ≤ suc (length line)
     by Nothing = omega arith
@@ -162,10 +162,10 @@ pub ends-within : (at end : ℕ) (text : List ℕ) → at ≤ length text → en
 ends-within at end text h e = (omega arith, omega (arith, line-within (drop at text), length-drop at text))
 
 -- ---- a turn of the loop over lines: from `at` to the line's end
-module _ (limit k at end : ℕ) (text : List ℕ) (line : Line) (h : at ≤ length text) (e : end ≡ at + lineLength (drop at text)) (read : line ≡ lineOf limit (take (end - at) (drop at text))) where
+module _ (limit : ℕ) (hex : Bool) (k at end : ℕ) (text : List ℕ) (line : Line) (h : at ≤ length text) (e : end ≡ at + lineLength (drop at text)) (read : line ≡ lineOf limit hex (partOf text at end)) where
   pub identifiers-fit : (length (identifiersOf line) ≤ end - at) × (length (identifiersOf line) ≤ 1)
   identifiers-fit =
-      let long : length (identifiersOf line) ≤ length (take (end - at) (drop at text)) = rw read (identifier-long limit (take (end - at) (drop at text))) in
+      let long : length (identifiersOf line) ≤ length (partOf text at end) = rw read (identifier-long limit hex (partOf text at end)) in
       (omega (arith, long, length-take (end - at) (drop at text)), one line)
     where
       one : (l : Line) → length (identifiersOf l) ≤ 1
@@ -174,16 +174,17 @@ module _ (limit k at end : ℕ) (text : List ℕ) (line : Line) (h : at ≤ leng
       one Above = omega arith
       one NotANumber = omega arith
 
-  pub turn-kept : (front next : List ℕ) (found : Found) → found ≡ behind front (foundFrom limit k (linesFrom text at)) → faulty line ≡ false → next ≡ front ++ identifiersOf line
-      → found ≡ behind next (foundFrom limit (k + 1) (linesFrom text (end + 1)))
+  pub turn-kept : (front next : List ℕ) (found : Found) → found ≡ behind front (foundFrom limit hex k (linesFrom text at)) → faulty line ≡ false → next ≡ front ++ identifiersOf line
+      → found ≡ behind next (foundFrom limit hex (k + 1) (linesFrom text (end + 1)))
   turn-kept front next found f sound n =
       f
-      ∙ ap (λ (lines : List (List ℕ)). behind front (foundFrom limit k lines)) (lines-turn text at end h e)
-      ∙ found-kept limit k front (take (end - at) (drop at text)) (linesFrom text (end + 1)) (ap faulty (sym read) ∙ sound)
-      ∙ ap₂ (λ (l : List ℕ) (j : ℕ). behind l (foundFrom limit j (linesFrom text (end + 1)))) (ap (λ (l : Line). front ++ identifiersOf l) (sym read) ∙ sym n) (sym (add-one k))
+      ∙ ap (λ (lines : List (List ℕ)). behind front (foundFrom limit hex k lines)) (lines-turn text at end h e)
+      ∙ found-kept limit hex k front (partOf text at end) (linesFrom text (end + 1)) (ap faulty (sym read) ∙ sound)
+      ∙ ap₂ (λ (l : List ℕ) (j : ℕ). behind l (foundFrom limit hex j (linesFrom text (end + 1)))) (ap (λ (l : Line). front ++ identifiersOf l) (sym read) ∙ sym n) (sym (add-one k))
 
-  pub turn-fault : (front list : List ℕ) (found : Found) → found ≡ behind front (foundFrom limit k (linesFrom text at)) → faulty line ≡ true → readingFound (faultAt k line) list ≡ found
+  pub turn-fault : (front list : List ℕ) (found : Found) → found ≡ behind front (foundFrom limit hex k (linesFrom text at)) → faulty line ≡ true
+      → readingFound (faultAt k at end line) text list ≡ found
   turn-fault front list found f wrong =
-      ap (λ (l : Line). readingFound (faultAt k l) list) read
-      ∙ found-fault limit k front (take (end - at) (drop at text)) (linesFrom text (end + 1)) list (ap faulty (sym read) ∙ wrong)
-      ∙ sym (f ∙ ap (λ (lines : List (List ℕ)). behind front (foundFrom limit k lines)) (lines-turn text at end h e))
+      ap (λ (l : Line). readingFound (faultAt k at end l) text list) read
+      ∙ found-fault limit hex k front (partOf text at end) (linesFrom text (end + 1)) text list at end refl (ap faulty (sym read) ∙ wrong)
+      ∙ sym (f ∙ ap (λ (lines : List (List ℕ)). behind front (foundFrom limit hex k lines)) (lines-turn text at end h e))

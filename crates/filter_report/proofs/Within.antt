@@ -7,12 +7,10 @@ use lib.Dec.{ltb, leb}
 use lib.ListN.{length, getD, drop}
 use borrow.Author.Tests.{leb-true, le-leb}
 use Rattle.filter_list.specs.Answers.{firstAbove}
-use Rattle.filter_report.specs.Line.{digitOf, baseOf, ends, unblanked, judged, numberFrom, numberOf, isHex, wordOf, lineOf}
+use Rattle.filter_report.specs.Line.{digitOf, baseOf, ends, closes, unblanked, judged, numberFrom, numberOf, isHex, wordOf, lineOf}
 use Rattle.filter_report.specs.Lines.{linesOf, Found, listed, aboveAt, wrongAt, foundBy, foundFrom, foundIn}
-use Rattle.filter_report.specs.declared.Line.{Line}
-use Rattle.filter_report.specs.declared.Line.the-variants.{Nothing, Identifier, Above, NotANumber}
-
--- The identifiers that are found are within the limit: each is judged where it is read. Assumes nothing.
+use Rattle.filter_report.specs.declared.line.Line.{Line}
+use Rattle.filter_report.specs.declared.line.Line.the-variants.{Nothing, Identifier, Above, NotANumber}
 
 abbrev Within : ℕ → Line → Type 0
 Within limit Nothing = Unit
@@ -31,46 +29,48 @@ judged-within limit n = by (leb n limit) refl
     by true e = leb-true n limit e
     by false e = tt
 
-number-within : (limit : ℕ) (hex : Bool) (n : ℕ) (line : List ℕ) → Within limit (numberFrom limit hex n line)
-unfolding numberFrom
-number-within limit hex n [] = judged-within limit n
-number-within limit hex n (c ∷ line) =
-    either limit (ltb (digitOf c) (baseOf hex)) (numberFrom limit hex (baseOf hex * n + digitOf c) line) (cond (ends (c ∷ line)) (judged limit n) NotANumber)
-    (number-within limit hex (baseOf hex * n + digitOf c) line)
-    (either limit (ends (c ∷ line)) (judged limit n) NotANumber (judged-within limit n) tt)
+module _ (limit : ℕ) (hex : Bool) where
+  number-within : (sixteen : Bool) (n : ℕ) (line : List ℕ) → Within limit (numberFrom limit hex sixteen n line)
+  unfolding numberFrom
+  number-within sixteen n [] = judged-within limit n
+  number-within sixteen n (c ∷ line) =
+      either limit (ltb (digitOf c) (baseOf sixteen)) (numberFrom limit hex sixteen (baseOf sixteen * n + digitOf c) line) (cond (closes hex (c ∷ line)) (judged limit n) NotANumber)
+      (number-within sixteen (baseOf sixteen * n + digitOf c) line)
+      (either limit (closes hex (c ∷ line)) (judged limit n) NotANumber (judged-within limit n) tt)
 
-number-of-within : (limit : ℕ) (hex : Bool) (line : List ℕ) → Within limit (numberOf limit hex line)
-unfolding numberOf
-number-of-within limit hex line =
-    either limit (ltb (digitOf (getD line 0 0)) (baseOf hex)) (numberFrom limit hex 0 line) NotANumber (number-within limit hex 0 line) tt
+  number-of-within : (sixteen : Bool) (line : List ℕ) → Within limit (numberOf limit hex sixteen line)
+  unfolding numberOf
+  number-of-within sixteen line =
+      either limit (ltb (digitOf (getD line 0 0)) (baseOf sixteen)) (numberFrom limit hex sixteen 0 line) NotANumber (number-within sixteen 0 line) tt
 
-line-of-within : (limit : ℕ) (line : List ℕ) → Within limit (lineOf limit line)
-unfolding lineOf wordOf
-line-of-within limit line =
-    let word = unblanked line in
-    either limit (ends line) Nothing (cond (isHex word) (numberOf limit true (drop 2 word)) (numberOf limit false word)) tt
-    (either limit (isHex word) (numberOf limit true (drop 2 word)) (numberOf limit false word) (number-of-within limit true (drop 2 word)) (number-of-within limit false word))
+  line-of-within : (line : List ℕ) → Within limit (lineOf limit hex line)
+  unfolding lineOf wordOf
+  line-of-within line =
+      let word = unblanked line in
+      either limit (ends line) Nothing (cond (isHex word) (numberOf limit hex true (drop 2 word)) (numberOf limit hex hex word)) tt
+      (either limit (isHex word) (numberOf limit hex true (drop 2 word)) (numberOf limit hex hex word) (number-of-within true (drop 2 word)) (number-of-within hex word))
 
 -- none of the identifiers found is above the limit
 abbrev pub AllWithin : ℕ → Found → Type 0
 AllWithin limit (listed list) = firstAbove limit list ≡ length list
-AllWithin limit (aboveAt k) = Unit
-AllWithin limit (wrongAt k) = Unit
+AllWithin limit (aboveAt k line) = Unit
+AllWithin limit (wrongAt k line) = Unit
 
-step : (limit k : ℕ) (line : Line) (rest : Found) → Within limit line → AllWithin limit rest → AllWithin limit (foundBy k line rest)
+step : (limit k : ℕ) (line : List ℕ) (says : Line) (rest : Found) → Within limit says → AllWithin limit rest → AllWithin limit (foundBy k line says rest)
 unfolding firstAbove
-step limit k Nothing rest w a = a
-step limit k (Identifier n) (listed list) w a = rw (le-leb n limit w) (ap suc a)
-step limit k (Identifier n) (aboveAt j) w a = tt
-step limit k (Identifier n) (wrongAt j) w a = tt
-step limit k Above rest w a = tt
-step limit k NotANumber rest w a = tt
+step limit k line Nothing rest w a = a
+step limit k line (Identifier n) (listed list) w a = rw (le-leb n limit w) (ap suc a)
+step limit k line (Identifier n) (aboveAt j at) w a = tt
+step limit k line (Identifier n) (wrongAt j at) w a = tt
+step limit k line Above rest w a = tt
+step limit k line NotANumber rest w a = tt
 
-from-within : (limit k : ℕ) (lines : List (List ℕ)) → AllWithin limit (foundFrom limit k lines)
+from-within : (limit : ℕ) (hex : Bool) (k : ℕ) (lines : List (List ℕ)) → AllWithin limit (foundFrom limit hex k lines)
 unfolding foundFrom firstAbove
-from-within limit k [] = refl
-from-within limit k (line ∷ lines) = step limit k (lineOf limit line) (foundFrom limit (suc k) lines) (line-of-within limit line) (from-within limit (suc k) lines)
+from-within limit hex k [] = refl
+from-within limit hex k (line ∷ lines) =
+    step limit k line (lineOf limit hex line) (foundFrom limit hex (suc k) lines) (line-of-within limit hex line) (from-within limit hex (suc k) lines)
 
-pub found-within : (limit : ℕ) (text : List ℕ) → AllWithin limit (foundIn limit text)
+pub found-within : (limit : ℕ) (hex : Bool) (text : List ℕ) → AllWithin limit (foundIn limit hex text)
 unfolding foundIn
-found-within limit text = from-within limit 1 (linesOf text)
+found-within limit hex text = from-within limit hex 1 (linesOf text)

@@ -1,26 +1,44 @@
--- What some lines and a text come to, by computation. Assumes nothing.
+-- What some lines and some texts come to, by computation. Assumes nothing.
 use mathlib.Core.Path.{_≡_, refl}
-use mathlib.Core.Bool.{false}
+use mathlib.Core.Bool.{true, false}
 use mathlib.Core.List.{[], _∷_, _++_}
+use Rattle.laws.specs.Ascii.{ascii}
 use Rattle.text.specs.Decimal.{digitsOf, decimal}
-use Rattle.filter_report.specs.Line.{isBlank, ends, unblanked, digitOf, numberFrom, numberOf, wordOf, lineOf}
+use Rattle.filter_report.specs.Line.{isBlank, ends, closes, unblanked, digitOf, numberFrom, numberOf, wordOf, lineOf}
 use Rattle.filter_report.specs.Lines.{linesOf, foundFrom, foundIn}
-use Rattle.filter_report.specs.Text.{lineText, wrongText, faultText, textOf}
-use Rattle.filter_report.specs.declared.Line.the-variants.{Nothing, Identifier, Above, NotANumber}
+use Rattle.filter_report.specs.Faults.{printed, shortened, shownOf, faultText}
+use Rattle.filter_report.specs.Text.{textOf}
+use Rattle.filter_report.specs.declared.line.Line.the-variants.{Nothing, Identifier, Above, NotANumber}
 
--- "0x7fF", " 260 # 0x104", "2048", "0x", "12 3", "1F", "(tab)# none"
 pub lines-worked :
-    (lineOf 0x7FF (48 ∷ 120 ∷ 55 ∷ 102 ∷ 70 ∷ []) ≡ Identifier 0x7FF)
-    × (lineOf 0x7FF (32 ∷ 50 ∷ 54 ∷ 48 ∷ 32 ∷ 35 ∷ 32 ∷ 48 ∷ 120 ∷ 49 ∷ 48 ∷ 52 ∷ []) ≡ Identifier 260)
-    × (lineOf 0x7FF (50 ∷ 48 ∷ 52 ∷ 56 ∷ []) ≡ Above)
-    × (lineOf 0x7FF (48 ∷ 120 ∷ []) ≡ NotANumber)
-    × (lineOf 0x7FF (49 ∷ 50 ∷ 32 ∷ 51 ∷ []) ≡ NotANumber)
-    × (lineOf 0x7FF (49 ∷ 70 ∷ []) ≡ NotANumber)
-    × (lineOf 0x7FF (9 ∷ 35 ∷ 32 ∷ 110 ∷ 111 ∷ 110 ∷ 101 ∷ []) ≡ Nothing)
-unfolding isBlank ends unblanked digitOf numberFrom numberOf wordOf lineOf
-lines-worked = (refl, refl, refl, refl, refl, refl, refl)
+    (lineOf 0x7FF false (ascii "0x7fF") ≡ Identifier 0x7FF)
+    × (lineOf 0x7FF false (ascii " 260 # 0x104") ≡ Identifier 260)
+    × (lineOf 0x7FF false (ascii "2048") ≡ Above)
+    × (lineOf 0x7FF false (ascii "0x") ≡ NotANumber)
+    × (lineOf 0x7FF false (ascii "12 3") ≡ NotANumber)
+    × (lineOf 0x7FF false (ascii "12A") ≡ NotANumber)
+    × (lineOf 0x7FF false (ascii "123#DEADBEEF") ≡ NotANumber)
+    × (lineOf 0x7FF false (ascii "\t# none") ≡ Nothing)
+unfolding isBlank ends closes unblanked digitOf numberFrom numberOf wordOf lineOf
+lines-worked = (refl, refl, refl, refl, refl, refl, refl, refl)
 
--- "7", a newline, "0x7G": the second line is at fault
-pub text-worked : textOf false (55 ∷ 10 ∷ 48 ∷ 120 ∷ 55 ∷ 71 ∷ []) ≡ lineText ++ (50 ∷ wrongText)
-unfolding isBlank ends unblanked digitOf numberFrom numberOf wordOf lineOf linesOf foundFrom foundIn digitsOf decimal faultText textOf
-text-worked = refl
+-- with `hex`
+pub hex-lines-worked :
+    (lineOf 0x7FF true (ascii "123#DEADBEEF") ≡ Identifier 0x123)
+    × (lineOf 0x7FF true (ascii "0x123##1DE") ≡ Identifier 0x123)
+    × (lineOf 0x7FF true (ascii "12a # the pump") ≡ Identifier 0x12A)
+    × (lineOf 0x7FF true (ascii "800") ≡ Above)
+    × (lineOf 0x7FF true (ascii "#DEADBEEF") ≡ Nothing)
+    × (lineOf 0x7FF true (ascii "can0 123") ≡ NotANumber)
+unfolding isBlank ends closes unblanked digitOf numberFrom numberOf wordOf lineOf
+hex-lines-worked = (refl, refl, refl, refl, refl, refl)
+
+-- faults: of either way to read, and in a second line
+pub texts-worked :
+    (textOf false false (ascii "12A") ≡ ascii "line 1: \"12A\" is not a number (hexadecimal needs 0x, or --hex)\n")
+    × (textOf false false (ascii "7\n 123#DEADBEEF\t!\n") ≡ ascii "line 2: \"123#DEADBEEF\" is not a number (hexadecimal needs 0x, or --hex)\n")
+    × (textOf false true (ascii "can0") ≡ ascii "line 1: \"can0\" is not a hexadecimal number\n")
+    × (textOf false true (ascii "800#00") ≡ ascii "line 1: \"800#00\" is above 0x7FF, the largest standard identifier\n")
+    × (textOf true false (ascii "1234567890123456789012345678901234") ≡ ascii "line 1: \"12345678901234567890123456789012..\" is above 0x1FFFFFFF, the largest extended identifier\n")
+unfolding isBlank ends closes unblanked digitOf numberFrom numberOf wordOf lineOf linesOf foundFrom foundIn digitsOf decimal printed shortened shownOf faultText textOf
+texts-worked = (refl, refl, refl, refl, refl)

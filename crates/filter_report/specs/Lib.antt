@@ -1,4 +1,5 @@
 pub mod Line
 pub mod Lines
+pub mod Faults
 pub mod Text
 pub mod Parts

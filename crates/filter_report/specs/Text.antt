@@ -1,5 +1,5 @@
 -- The text that the program prints for a list: its filter, or the line at fault.
--- Source: request #102; examples/README.md, "Lists".
+-- Source: request #102; docs/FORMATS.md, "Lists".
 use Prim.Native.Nat.{ℕ, _+_, _/_, _%_}
 use mathlib.Core.Bool.{Bool, true, false, cond}
 use mathlib.Core.List.{List, [], _∷_, _++_}
@@ -10,6 +10,7 @@ use Rattle.identifiers.specs.Limits.{widthOf, limitOf}
 use Rattle.filter_list.specs.Pattern.{patternOf}
 use Rattle.filter_list.specs.Answers.{throughOf, registersOfList}
 use Rattle.text.specs.Decimal.{decimal}
+use Rattle.filter_report.specs.Faults.{aboveText, wrongText, faultText}
 use Rattle.filter_report.specs.Lines.{Found, listed, aboveAt, wrongAt, foundIn}
 
 -- a longer text is not read
@@ -24,36 +25,17 @@ unfoldable pub hexOf : List ℕ → List ℕ
 hexOf [] = []
 hexOf (byte ∷ bytes) = hexDigit (byte / 16) ∷ hexDigit (byte % 16) ∷ hexOf bytes
 
-abbrev pub patternText : List ℕ
-patternText = ascii "pattern "
+-- a pattern and its registers, a line each
+unfoldable pub registersText : List ℕ → List ℕ → List ℕ
+registersText pattern registers = ascii "pattern " ++ (pattern ++ (ascii "\nregisters " ++ (hexOf registers ++ ascii "\n")))
 
-abbrev pub registersText : List ℕ
-registersText = ascii "\nregisters "
-
-abbrev pub identifiersText : List ℕ
-identifiersText = ascii "\nidentifiers "
-
--- the three lines of a filter
+-- all lines of a filter
 unfoldable pub linesText : List ℕ → List ℕ → ℕ → List ℕ
-linesText pattern registers through =
-    patternText ++ (pattern ++ (registersText ++ (hexOf registers ++ (identifiersText ++ (decimal through ++ ascii "\n")))))
+linesText pattern registers through = registersText pattern registers ++ (ascii "identifiers " ++ (decimal through ++ ascii "\n"))
 
 abbrev pub filterText : Bool → List ℕ → List ℕ
 filterText extended list =
     linesText (patternOf (widthOf extended) list) (registersOfList extended list) (throughOf extended (registersOfList extended list))
-
-abbrev pub lineText : List ℕ
-lineText = ascii "line "
-
-abbrev pub aboveText : Bool → List ℕ
-aboveText false = ascii ": identifier above 0x7FF\n"
-aboveText true = ascii ": identifier above 0x1FFFFFFF\n"
-
-abbrev pub wrongText : List ℕ
-wrongText = ascii ": not a number\n"
-
-unfoldable pub faultText : ℕ → List ℕ → List ℕ
-faultText k fault = lineText ++ (decimal k ++ fault)
 
 abbrev pub noneText : List ℕ
 noneText = ascii "no identifiers\n"
@@ -65,10 +47,10 @@ abbrev pub listText : Bool → List ℕ → List ℕ
 listText extended [] = noneText
 listText extended (n ∷ list) = filterText extended (n ∷ list)
 
-abbrev pub foundText : Bool → Found → List ℕ
-foundText extended (listed list) = listText extended list
-foundText extended (aboveAt k) = faultText k (aboveText extended)
-foundText extended (wrongAt k) = faultText k wrongText
+abbrev pub foundText : Bool → Bool → Found → List ℕ
+foundText extended hex (listed list) = listText extended list
+foundText extended hex (aboveAt k line) = faultText k line (aboveText extended)
+foundText extended hex (wrongAt k line) = faultText k line (wrongText hex)
 
-unfoldable pub textOf : Bool → List ℕ → List ℕ
-textOf extended text = cond (leb (length text) textLimit) (foundText extended (foundIn (limitOf extended) text)) longText
+unfoldable pub textOf : Bool → Bool → List ℕ → List ℕ
+textOf extended hex text = cond (leb (length text) textLimit) (foundText extended hex (foundIn (limitOf extended) hex text)) longText

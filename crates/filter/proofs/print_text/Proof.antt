@@ -18,20 +18,20 @@ enum-known-length c = search needs
 array-share-prefix-text : tie.Need-array-share-prefix-text
 array-share-prefix-text c = search needs
 
-slice-aggregate-write-all : tie.Need-slice-aggregate-write-all
-slice-aggregate-write-all c = sym (length-take-le (c .before .before .before .length .given .0 .0) (c .before .before .before .before .before .before .filter-text .last .1 .1 .0) (omega (arith, c .before .before .before .before .before .before .filter-text .kept .1 .1 .0, c .before .if1 .taken)))
+slice-aggregate-print : tie.Need-slice-aggregate-print
+slice-aggregate-print c = sym (length-take-le (c .before .before .before .length .given .0 .0) (c .before .before .before .before .before .before .filter-text .last .1 .1 .1 .0) (omega (arith, c .before .before .before .before .before .before .filter-text .kept .1 .1 .1 .0, c .before .if1 .taken)))
 
-write-all-requires : tie.Need-write-all-requires
-write-all-requires c κs = search needs
+print-requires : tie.Need-print-requires
+print-requires c κs = search needs
 
 enum-told : tie.Need-enum-told
 enum-told c = search needs
 
-slice-aggregate-write-all-2 : tie.Need-slice-aggregate-write-all-2
-slice-aggregate-write-all-2 c = search needs
+slice-aggregate-write-all : tie.Need-slice-aggregate-write-all
+slice-aggregate-write-all c = search needs
 
-write-all-requires-2 : tie.Need-write-all-requires-2
-write-all-requires-2 c κs = search needs
+write-all-requires : tie.Need-write-all-requires
+write-all-requires c κs = search needs
 
 returns : tie.Need-returns
 returns c = search needs
@@ -50,11 +50,11 @@ print-text-spec =
     filter-text-requires
     enum-known-length
     array-share-prefix-text
+    slice-aggregate-print
+    print-requires
+    enum-told
     slice-aggregate-write-all
     write-all-requires
-    enum-told
-    slice-aggregate-write-all-2
-    write-all-requires-2
     returns
     returns-2
     returns-3)

@@ -1,0 +1,93 @@
+// The text about a line at fault.
+ghost use mathlib.Core.Path.{_≡_};
+ghost use Prim.Native.Nat.{_+_, _≤_};
+ghost use lib.ListN.{length, drop};
+ghost use Rattle.laws.specs.Laid.{laidFirst, laid};
+ghost use Rattle.filter_report.specs.Faults.{printed, shownOf, faultText, aboveText, wrongText};
+use crate::line;
+
+// No more characters of a line are shown.
+const MOST_SHOWN: usize = 32;
+
+// Where the printable characters from a place on end.
+fn printed_end(line: &[u8], from: usize) -> usize
+    requires { ⌜ from ≤ length (now line) ⌝ }
+    ensures { λ r. ⌜ r ≡ from + length (printed (drop from (now (line .entry)))) ⌝ }
+{
+    let mut i = from;
+    while i < line.len() {
+        if line[i] < 32 {
+            return i;
+        }
+        if line[i] > 126 {
+            return i;
+        }
+        i += 1;
+    }
+    i
+}
+
+// What a line shows at a place, and the place after it.
+fn put_shown(line: &[u8], page: &mut [u8], at: usize) -> usize
+    requires { ⌜ at + 34 ≤ length (now page) ⌝ }
+    ensures { λ r. ⌜ (r ≡ at + length (shownOf (now (line .entry)))) × (now (page .exit) ≡ laid at (shownOf (now (line .entry))) (now (page .entry))) ⌝ }
+{
+    let from = line::behind_blanks(line);
+    let end = printed_end(line, from);
+    if end - from <= MOST_SHOWN {
+        return text::put_text(page, at, &line[from..end]);
+    }
+    let cut = from + MOST_SHOWN;
+    let next = text::put_text(page, at, &line[from..cut]);
+    text::put_text(page, next, b"..")
+}
+
+// The text of a line at fault into the front of the page, and its length.
+fn put_fault(number: usize, line: &[u8], fault: &[u8], page: &mut [u8]) -> usize
+    requires { ⌜ (number ≤ 65537) × (length (now fault) ≤ 100) × (512 ≤ length (now page)) ⌝ }
+    ensures { λ r. ⌜ (r ≡ length (faultText number (now (line .entry)) (now (fault .entry))))
+        × (now (page .exit) ≡ laidFirst (faultText number (now (line .entry)) (now (fault .entry))) (now (page .entry))) × (r ≤ 512) ⌝ }
+{
+    let first = text::put_text(page, 0, b"line ");
+    let second = text::put_decimal(page, first, number);
+    let third = text::put_text(page, second, b": \"");
+    let fourth = put_shown(line, page, third);
+    text::put_text(page, fourth, fault)
+}
+
+pub(crate) fn put_above(extended: bool, number: usize, line: &[u8], page: &mut [u8]) -> usize
+    requires { ⌜ (number ≤ 65537) × (512 ≤ length (now page)) ⌝ }
+    ensures { λ r. ⌜ (r ≡ length (faultText number (now (line .entry)) (aboveText extended)))
+        × (now (page .exit) ≡ laidFirst (faultText number (now (line .entry)) (aboveText extended)) (now (page .entry))) × (r ≤ 512) ⌝ }
+{
+    if extended {
+        return put_fault(
+            number,
+            line,
+            b"\" is above 0x1FFFFFFF, the largest extended identifier\n",
+            page,
+        );
+    }
+    put_fault(
+        number,
+        line,
+        b"\" is above 0x7FF, the largest standard identifier\n",
+        page,
+    )
+}
+
+pub(crate) fn put_wrong(hex: bool, number: usize, line: &[u8], page: &mut [u8]) -> usize
+    requires { ⌜ (number ≤ 65537) × (512 ≤ length (now page)) ⌝ }
+    ensures { λ r. ⌜ (r ≡ length (faultText number (now (line .entry)) (wrongText hex)))
+        × (now (page .exit) ≡ laidFirst (faultText number (now (line .entry)) (wrongText hex)) (now (page .entry))) × (r ≤ 512) ⌝ }
+{
+    if hex {
+        return put_fault(number, line, b"\" is not a hexadecimal number\n", page);
+    }
+    put_fault(
+        number,
+        line,
+        b"\" is not a number (hexadecimal needs 0x, or --hex)\n",
+        page,
+    )
+}
