@@ -6,3 +6,4 @@ pub mod Shown
 pub mod Rows
 pub mod Listed
 pub mod Worked
+pub mod Ids

@@ -3,3 +3,5 @@ pub mod Lines
 pub mod Faults
 pub mod Text
 pub mod Parts
+pub mod Page
+pub mod Listed
