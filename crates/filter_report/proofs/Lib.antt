@@ -7,3 +7,7 @@ pub mod Rows
 pub mod Listed
 pub mod Worked
 pub mod Ids
+pub mod Members
+pub mod Unlisted
+pub mod Passing
+pub mod WorkedLines

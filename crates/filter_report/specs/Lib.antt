@@ -5,3 +5,4 @@ pub mod Text
 pub mod Parts
 pub mod Page
 pub mod Listed
+pub mod Through

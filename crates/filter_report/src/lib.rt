@@ -3,6 +3,7 @@ mod faults;
 mod line;
 mod lines;
 mod named;
+mod through;
 
 ghost use mathlib.Core.Path.{_≡_};
 ghost use Prim.Native.Nat.{_+_, _*_, _/_, _^_, _<_, _≤_};
