@@ -1,5 +1,5 @@
 // Reads a list of identifiers on standard input, at most one byte more than the longest, and prints its filter. The arguments are the format, and
-// before it `--hex` where bare numbers are hexadecimal.
+// before it `--hex` where bare numbers are hexadecimal. Standard error says behind `error:` what went wrong with input, output or the arguments.
 use libc::STDERR_FILENO;
 use libc::STDOUT_FILENO;
 use standard_input::Input;
@@ -7,7 +7,7 @@ use text::Laying;
 
 fn print(text: &[u8]) {
     if !io::write_all(STDOUT_FILENO, text) {
-        io::write_all(STDERR_FILENO, b"filter: the text can't be written\n");
+        io::write_all(STDERR_FILENO, b"filter: error: the text can't be written\n");
     }
 }
 
@@ -21,7 +21,10 @@ fn print_text(extended: bool, hex: bool, list: &[u8]) {
             }
         }
         Laying::Refused(_) => {
-            io::write_all(STDERR_FILENO, b"filter: the text is longer than can be\n");
+            io::write_all(
+                STDERR_FILENO,
+                b"filter: error: the text is longer than can be\n",
+            );
         }
     }
 }
@@ -31,7 +34,10 @@ fn print_filter(extended: bool, hex: bool) {
     match standard_input::read_input(&mut list) {
         Input::Read(length) => print_text(extended, hex, &list[..length]),
         Input::Failed => {
-            io::write_all(STDERR_FILENO, b"filter: standard input can't be read\n");
+            io::write_all(
+                STDERR_FILENO,
+                b"filter: error: standard input can't be read\n",
+            );
         }
     }
 }
@@ -61,7 +67,7 @@ fn print_by(format: &[u8], hex: bool) {
     }
     io::write_all(
         STDERR_FILENO,
-        b"filter: the format is standard or extended\n",
+        b"filter: error: the format is standard or extended\n",
     );
 }
 

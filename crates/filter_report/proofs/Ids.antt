@@ -1,4 +1,4 @@
--- Texts put on a page one behind another, and identifiers among them: how long they are, and one more at each turn. Assumes nothing.
+-- Identifiers on a page: how long their texts are, and one more at each turn. Assumes nothing.
 use Prim.Native.Nat.{ℕ, zero, suc, _+_, _-_, _*_, _/_, _%_, _^_, _≤_, _<_}
 use mathlib.Core.Path.{_≡_, refl, sym, ap, _∙_}
 use mathlib.Core.Bool.{Bool, true, false}
@@ -13,39 +13,11 @@ use native.Mathlib.Omega.{arith}
 use borrow.Author.Tests.{le-leb, lt-leb}
 use Rattle.laws.specs.Ascii.{ascii}
 use Rattle.laws.specs.Laid.{laid}
-use Rattle.laws.proofs.Laid.{length-laid, laid-then, laid-none, laid-more}
+use Rattle.laws.proofs.Laid.{laid-more}
 use Rattle.filter_list.proofs.Pattern.{down-length, down-at}
-use Rattle.filter_report.specs.Text.{hexDigit}
+use Rattle.filter_report.specs.Hex.{hexDigit}
 use Rattle.filter_report.specs.Page.{Put}
 use Rattle.filter_report.specs.Listed.{hexWidth, lastDigits, idText, idsText, frontText}
-
--- ---- one text behind another
-pub put-then : {at next last : ℕ} {a b page was now : List ℕ} → at ≤ length page → Put at a page was next → Put next b was now last → Put at (a ++ b) page now last
-put-then {at} {next} {last} {a} {b} {page} {was} {now} h p q =
-    record {
-      behind = omega (arith, p .behind, q .behind, length-append a b);
-      stands = q .stands ∙ ap (laid next b) (p .stands) ∙ laid-then next at a b page (p .behind) h;
-    }
-
-put-long : {at next : ℕ} {a page now : List ℕ} → at + length a ≤ length page → Put at a page now next → length now ≡ length page
-put-long {at} {next} {a} {page} {now} h p = ap length (p .stands) ∙ length-laid at a page h
-
--- five texts
-pub line-put : {at r₁ r₂ r₃ r₄ r₅ : ℕ} {a b c d e page p₁ p₂ p₃ p₄ p₅ : List ℕ} → at + length a + length b + length c + length d ≤ length page
-    → Put at a page p₁ r₁ → Put r₁ b p₁ p₂ r₂ → Put r₂ c p₂ p₃ r₃ → Put r₃ d p₃ p₄ r₄ → Put r₄ e p₄ p₅ r₅ → Put at (a ++ (b ++ (c ++ (d ++ e)))) page p₅ r₅
-line-put room q₁ q₂ q₃ q₄ q₅ =
-    let l₁ = put-long (omega arith) q₁ in
-    let l₂ = put-long (omega (arith, l₁, q₁ .behind)) q₂ in
-    let l₃ = put-long (omega (arith, l₁, l₂, q₁ .behind, q₂ .behind)) q₃ in
-    put-then (omega arith) q₁
-    (put-then (omega (arith, l₁, q₁ .behind)) q₂
-    (put-then (omega (arith, l₁, l₂, q₁ .behind, q₂ .behind)) q₃ (put-then (omega (arith, l₁, l₂, l₃, q₁ .behind, q₂ .behind, q₃ .behind)) q₄ q₅)))
-
-pub put-none : (at : ℕ) (page : List ℕ) → Put at [] page page at
-put-none at page = record { behind = omega arith; stands = sym (laid-none at page) }
-
-pub put-equal : {at next : ℕ} {a b page now : List ℕ} → a ≡ b → Put at a page now next → Put at b page now next
-put-equal {at} {next} {a} {b} {page} {now} e p = rw e at p
 
 -- ---- a number's last digits
 -- a digit is four bits

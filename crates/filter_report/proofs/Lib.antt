@@ -3,11 +3,10 @@ pub mod Split
 pub mod Within
 pub mod Page
 pub mod Shown
-pub mod Rows
 pub mod Listed
-pub mod Worked
 pub mod Ids
 pub mod Members
 pub mod Unlisted
 pub mod Passing
+pub mod Worked
 pub mod WorkedLines

@@ -56,10 +56,6 @@ module _ (extended : Bool) (list : List ℕ) (some : 0 < length list) (within : 
       let laid : now ≡ laidFirst (patternOf (widthOf extended) list) out = e ∙ rw here in
       ap (take (widthOf extended)) laid ∙ take-at (patternOf (widthOf extended) list) _ (widthOf extended) (pattern-long extended list)
 
--- the same text in other words
-pub put-as : (t u page now : List ℕ) (r : ℕ) → t ≡ u → (r ≡ length t) × (now ≡ laidFirst t page) × (r ≤ 512) → (r ≡ length u) × (now ≡ laidFirst u page) × (r ≤ 512)
-put-as t u page now r e q = (q .0 ∙ ap length e, q .1 ∙ ap (λ (l : List ℕ). laidFirst l page) e, q .2)
-
 pub list-none : (extended : Bool) (list : List ℕ) → length list ≡ 0 → noneText ≡ listText extended list
 list-none extended [] h = refl
 list-none extended (n ∷ list) h = absurd (omega (arith, h))
@@ -81,7 +77,3 @@ all-within limit hex text list e = by (foundIn limit hex text) (sym e) (found-wi
   where
     by : (f : Found) → f ≡ listed list → AllWithin limit f → AllWithin limit (listed list)
     by f p a = rw p at a
-
--- the front of the page
-pub front-is : (t page now : List ℕ) (n : ℕ) → n ≡ length t → now ≡ laidFirst t page → take n now ≡ t
-front-is t page now n e w = ap (take n) w ∙ take-at t _ n (sym e)

@@ -1,51 +1,47 @@
 -- Texts put on a page one behind another, and numbers in hexadecimal. Assumes nothing.
-use Prim.Native.Nat.{ℕ, _+_, _*_, _/_, _%_, _^_, _≤_, _<_}
+use Prim.Native.Nat.{ℕ, _+_, _*_, _/_, _%_, _≤_, _<_}
 use mathlib.Core.Path.{_≡_, refl, sym, ap, ap₂, _∙_}
-use mathlib.Core.List.{List, [], _∷_, _++_, append-assoc}
+use mathlib.Core.List.{List, [], _∷_, _++_}
 use lib.ListN.{length, getD, take, set, length-append}
-use lib.Seq.{take-suc, length-take-le}
+use lib.Seq.{take-suc, take-at, length-take-le}
 use native.Mathlib.Numerals.{add-one}
 use native.Mathlib.Omega.{arith}
-use Rattle.laws.specs.Laid.{laidFirst, laid}
+use Rattle.laws.specs.Laid.{laid}
 use Rattle.laws.proofs.Laid.{length-laid, laid-then, set-then, laid-none}
-use Rattle.text.specs.Put.{placeBehind, putAt}
-use Rattle.text.proofs.Put.{place-put, text-put}
-use Rattle.filter_report.specs.Text.{hexDigit, hexOf}
+use Rattle.filter_report.specs.Hex.{hexDigit, hexOf}
+use Rattle.filter_report.specs.Page.{Put}
 
--- a page with a text of at most so many characters from a place on, and the place behind it
-pub record On (from most : ℕ) (text page : List ℕ) (place : ℕ) (now : List ℕ) : Type 0 where
-  pub ends : place ≡ from + length text
-  pub shows : now ≡ laid from text page
-  pub short : length text ≤ most
-  pub long : length now ≡ length page
+-- ---- one text behind another
+pub put-then : {at next last : ℕ} {a b page was now : List ℕ} → at ≤ length page → Put at a page was next → Put next b was now last → Put at (a ++ b) page now last
+put-then {at} {next} {last} {a} {b} {page} {was} {now} h p q =
+    record {
+      behind = omega (arith, p .behind, q .behind, length-append a b);
+      stands = q .stands ∙ ap (laid next b) (p .stands) ∙ laid-then next at a b page (p .behind) h;
+    }
 
-pub on-none : (from : ℕ) (page : List ℕ) → On from 0 [] page from page
-on-none from page = record { ends = omega arith; shows = sym (laid-none from page); short = omega arith; long = refl }
+put-long : {at next : ℕ} {a page now : List ℕ} → at + length a ≤ length page → Put at a page now next → length now ≡ length page
+put-long {at} {next} {a} {page} {now} h p = ap length (p .stands) ∙ length-laid at a page h
 
--- one text more
-module _ {from most : ℕ} {a page : List ℕ} {at : ℕ} {was : List ℕ} (on : On from most a page at was) (more : ℕ) (b : List ℕ) (few : length b ≤ more) (room : from + (most + more) ≤ length page) where
-  fits : at + length b ≤ length was
-  fits = omega (arith, few, room, on .ends, on .short, on .long)
+-- five texts
+pub line-put : {at r₁ r₂ r₃ r₄ r₅ : ℕ} {a b c d e page p₁ p₂ p₃ p₄ p₅ : List ℕ} → at + length a + length b + length c + length d ≤ length page
+    → Put at a page p₁ r₁ → Put r₁ b p₁ p₂ r₂ → Put r₂ c p₂ p₃ r₃ → Put r₃ d p₃ p₄ r₄ → Put r₄ e p₄ p₅ r₅ → Put at (a ++ (b ++ (c ++ (d ++ e)))) page p₅ r₅
+line-put room q₁ q₂ q₃ q₄ q₅ =
+    let l₁ = put-long (omega arith) q₁ in
+    let l₂ = put-long (omega (arith, l₁, q₁ .behind)) q₂ in
+    let l₃ = put-long (omega (arith, l₁, l₂, q₁ .behind, q₂ .behind)) q₃ in
+    put-then (omega arith) q₁
+    (put-then (omega (arith, l₁, q₁ .behind)) q₂
+    (put-then (omega (arith, l₁, l₂, q₁ .behind, q₂ .behind)) q₃ (put-then (omega (arith, l₁, l₂, l₃, q₁ .behind, q₂ .behind, q₃ .behind)) q₄ q₅)))
 
-  pub on-laid : (r : ℕ) (now : List ℕ) → r ≡ at + length b → now ≡ laid at b was → On from (most + more) (a ++ b) page r now
-  on-laid r now e n = record {
-    ends = omega (arith, e, on .ends, length-append a b);
-    shows = n ∙ ap (laid at b) (on .shows) ∙ laid-then at from a b page (on .ends) (omega arith);
-    short = omega (arith, length-append a b, few, on .short);
-    long = ap length n ∙ length-laid at b was (fits) ∙ on .long;
-  }
+pub put-none : (at : ℕ) (page : List ℕ) → Put at [] page page at
+put-none at page = record { behind = omega arith; stands = sym (laid-none at page) }
 
-  pub on-put : (r : ℕ) (now : List ℕ) → r ≡ placeBehind at b was → now ≡ putAt at b was → On from (most + more) (a ++ b) page r now
-  on-put r now e n = on-laid r now (place-put at r b was e (fits)) (text-put at b was now n (fits))
+pub put-equal : {at next : ℕ} {a b page now : List ℕ} → a ≡ b → Put at a page now next → Put at b page now next
+put-equal {at} {next} {a} {b} {page} {now} e p = rw e at p
 
--- the text in other words
-pub on-as : {from most : ℕ} {t page : List ℕ} {r : ℕ} {now : List ℕ} (u : List ℕ) → t ≡ u → On from most t page r now → (r ≡ from + length u) × (now ≡ laid from u page)
-on-as {from} {most} {t} {page} {r} {now} u e on = (on .ends ∙ ap (λ (l : List ℕ). from + length l) e, on .shows ∙ ap (λ (l : List ℕ). laid from l page) e)
-
--- in the front of the page
-pub on-first : {most : ℕ} {t page : List ℕ} {r : ℕ} {now : List ℕ} (u : List ℕ) → t ≡ u → most ≤ 512 → On 0 most t page r now
-    → (r ≡ length u) × (now ≡ laidFirst u page) × (r ≤ 512)
-on-first {most} {t} {page} {r} {now} u e few on = (omega (arith, on .ends, ap length e), on .shows ∙ ap (λ (l : List ℕ). laidFirst l page) e, omega (arith, on .ends, on .short, few))
+-- the front of a page
+pub put-first : {next : ℕ} {text page now : List ℕ} → Put 0 text page now next → take next now ≡ text
+put-first {next} {text} {page} {now} p = ap (take next) (p .stands) ∙ take-at text _ next (omega (arith, p .behind))
 
 -- ---- bytes in hexadecimal
 hex-more : (a : List ℕ) (byte : ℕ) → hexOf (a ++ (byte ∷ [])) ≡ (hexOf a ++ (hexDigit (byte / 16) ∷ [])) ++ (hexDigit (byte % 16) ∷ [])

@@ -1,24 +1,17 @@
--- What a line at fault shows: its printable characters by place, the part of the line that they are, and the whole text about the line on a page. Assumes nothing.
+-- What a line at fault shows: its printable characters by place, and the part of the line that they are. Assumes nothing.
 use Prim.Native.Nat.{ℕ, suc, _+_, _-_, _≤_, _<_}
 use mathlib.Core.Path.{_≡_, refl, sym, ap, _∙_}
 use mathlib.Core.Bool.{Bool, true, false, cond}
-use mathlib.Core.List.{List, [], _∷_, _++_, append-assoc}
+use mathlib.Core.List.{List, [], _∷_, _++_}
 use lib.Dec.{leb}
 use lib.ListN.{length, getD, take, drop, length-append, length-take, length-drop}
 use lib.Seq.{take-take}
 use native.Mathlib.Omega.{arith}
 use borrow.Author.Tests.{le-leb, lt-leb, leb-true}
 use Rattle.laws.specs.Ascii.{ascii}
-use Rattle.laws.specs.Laid.{laidFirst, laid}
-use Rattle.laws.proofs.Laid.{length-laid, laid-then}
-use Rattle.text.specs.Put.{placeBehind, putAt}
-use Rattle.text.specs.Decimal.{decimal}
-use Rattle.text.proofs.Decimal.{decimal-long}
-use Rattle.text.proofs.Put.{place-put, text-put}
 use Rattle.filter_report.specs.Line.{unblanked}
-use Rattle.filter_report.specs.Faults.{isPrintable, printed, shortened, shownOf, lineText, quoteText, faultText}
+use Rattle.filter_report.specs.Faults.{isPrintable, printed, shortened, shownOf}
 use Rattle.filter_report.specs.Parts.{partOf}
-use Rattle.filter_report.proofs.Page.{On, on-none, on-laid, on-put, on-first}
 use Rattle.filter_report.proofs.Scan.{at-place, past-end}
 
 -- ---- the printable characters from a place on
@@ -96,53 +89,3 @@ module _ (line : List ℕ) (from end : ℕ) (first : drop from line ≡ unblanke
 
   pub shown-place : from ≤ length line → (from ≤ end) × (end ≤ length line)
   shown-place h = (omega (arith, last), omega (arith, last, printed-within (drop from line), length-drop from line))
-
-  module _ (at : ℕ) (page : List ℕ) (room : at + 34 ≤ length page) where
-    pub whole-put : (r : ℕ) (now : List ℕ) → end - from ≤ 32 → r ≡ placeBehind at (partOf line from end) page → now ≡ putAt at (partOf line from end) page
-        → (r ≡ at + length (shownOf line)) × (now ≡ laid at (shownOf line) page)
-    whole-put r now few e n =
-        let same = shown-whole few in
-        let fits : at + length (partOf line from end) ≤ length page = omega (arith, ap length same, shown-short line) in (
-          place-put at r (partOf line from end) page e fits ∙ ap (λ (t : List ℕ). at + length t) same,
-          text-put at (partOf line from end) page now n fits ∙ ap (λ (t : List ℕ). laid at t page) same,
-        )
-
-    pub cut-put : (next r : ℕ) (was now : List ℕ) → 32 < end - from
-        → next ≡ placeBehind at (partOf line from (from + 32)) page → was ≡ putAt at (partOf line from (from + 32)) page
-        → r ≡ placeBehind next (ascii "..") was → now ≡ putAt next (ascii "..") was
-        → (r ≡ at + length (shownOf line)) × (now ≡ laid at (shownOf line) page)
-    cut-put next r was now many e₁ n₁ e₂ n₂ =
-        let part = partOf line from (from + 32) in
-        let same = shown-cut many in
-        let long = length-append part (ascii "..") in
-        let fits : at + length part ≤ length page = omega (arith, ap length same, long, shown-short line) in
-        let place = place-put at next part page e₁ fits in
-        let put = text-put at part page was n₁ fits in
-        let kept : length was ≡ length page = ap length put ∙ length-laid at part page fits in
-        let behind : next + length (ascii "..") ≤ length was = omega (arith, ap length same, long, shown-short line, place, kept) in (
-          omega (arith, place-put next r (ascii "..") was e₂ behind, place, long, ap length same),
-          text-put next (ascii "..") was now n₂ behind ∙ ap (laid next (ascii "..")) put
-              ∙ laid-then next at part (ascii "..") page place (omega arith) ∙ ap (λ (t : List ℕ). laid at t page) same,
-        )
-
--- ---- the text of a line at fault
-module _ (number : ℕ) (page : List ℕ) (few : number ≤ 65537) (room : 512 ≤ length page) where
-  pub begun-put : (r₁ r₂ r₃ : ℕ) (p₁ p₂ p₃ : List ℕ)
-      → r₁ ≡ placeBehind 0 lineText page → p₁ ≡ putAt 0 lineText page
-      → r₂ ≡ placeBehind r₁ (decimal number) p₁ → p₂ ≡ putAt r₁ (decimal number) p₁
-      → r₃ ≡ placeBehind r₂ quoteText p₂ → p₃ ≡ putAt r₂ quoteText p₂
-      → On 0 13 ((lineText ++ decimal number) ++ quoteText) page r₃ p₃
-  begun-put r₁ r₂ r₃ p₁ p₂ p₃ e₁ n₁ e₂ n₂ e₃ n₃ =
-      let one = on-put (on-none 0 page) 5 lineText (omega arith) (omega arith) r₁ p₁ e₁ n₁ in
-      let two = on-put one 5 (decimal number) (decimal-long 4 number (omega arith)) (omega arith) r₂ p₂ e₂ n₂ in
-      on-put two 3 quoteText (omega arith) (omega arith) r₃ p₃ e₃ n₃
-
-  pub fault-put : {r₃ : ℕ} {p₃ : List ℕ} (line fault : List ℕ) → length fault ≤ 100 → On 0 13 ((lineText ++ decimal number) ++ quoteText) page r₃ p₃ → (r₄ r₅ : ℕ) (p₄ p₅ : List ℕ)
-      → r₄ ≡ r₃ + length (shownOf line) → p₄ ≡ laid r₃ (shownOf line) p₃
-      → r₅ ≡ placeBehind r₄ fault p₄ → p₅ ≡ putAt r₄ fault p₄
-      → (r₅ ≡ length (faultText number line fault)) × (p₅ ≡ laidFirst (faultText number line fault) page) × (r₅ ≤ 512)
-  unfolding faultText
-  fault-put line fault short three r₄ r₅ p₄ p₅ e₄ n₄ e₅ n₅ =
-      let four = on-laid three 34 (shownOf line) (shown-short line) (omega arith) r₄ p₄ e₄ n₄ in
-      let five = on-put four 100 fault short (omega arith) r₅ p₅ e₅ n₅ in
-      on-first (lineText ++ (decimal number ++ (quoteText ++ (shownOf line ++ fault)))) (simp append-assoc) (omega arith) five

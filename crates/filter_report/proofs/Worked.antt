@@ -1,13 +1,13 @@
 -- What some lines and some texts come to, by computation. Assumes nothing.
 use mathlib.Core.Path.{_≡_, refl}
 use mathlib.Core.Bool.{true, false}
-use mathlib.Core.List.{[], _∷_, _++_}
+use mathlib.Core.List.{[], _∷_}
 use Rattle.laws.specs.Ascii.{ascii}
 use Rattle.text.specs.Decimal.{digitsOf, decimal}
 use Rattle.filter_report.specs.Line.{isBlank, ends, closes, unblanked, digitOf, numberFrom, numberOf, wordOf, lineOf}
 use Rattle.filter_report.specs.Lines.{linesOf, foundFrom, foundIn}
 use Rattle.filter_report.specs.Faults.{printed, shortened, shownOf, faultText}
-use Rattle.filter_report.specs.Text.{textOf}
+use Rattle.filter_report.specs.Text.{filterText, textOf}
 use Rattle.filter_report.specs.declared.line.Line.the-variants.{Nothing, Identifier, Above, NotANumber}
 
 pub lines-worked :
@@ -42,3 +42,10 @@ pub texts-worked :
     × (textOf true false (ascii "1234567890123456789012345678901234") ≡ ascii "line 1: \"12345678901234567890123456789012..\" is above 0x1FFFFFFF, the largest extended identifier\n")
 unfolding isBlank ends closes unblanked digitOf numberFrom numberOf wordOf lineOf linesOf foundFrom foundIn digitsOf decimal printed shortened shownOf faultText textOf
 texts-worked = (refl, refl, refl, refl, refl)
+
+-- the same list in either way: its filter's text, whose lines WorkedLines.antt works out
+pub lists-worked :
+    (textOf false true (ascii "064#DEADBEEF\n068 # by hand\n") ≡ filterText false (0x64 ∷ 0x68 ∷ []))
+    × (textOf false false (ascii "0x64\n104 # 0x68\n") ≡ filterText false (0x64 ∷ 0x68 ∷ []))
+unfolding isBlank ends closes unblanked digitOf numberFrom numberOf wordOf lineOf linesOf foundFrom foundIn textOf
+lists-worked = (refl, refl)

@@ -1,8 +1,9 @@
 pub mod Line
 pub mod Lines
 pub mod Faults
-pub mod Text
-pub mod Parts
-pub mod Page
+pub mod Hex
 pub mod Listed
 pub mod Through
+pub mod Text
+pub mod Page
+pub mod Parts

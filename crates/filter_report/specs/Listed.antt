@@ -8,7 +8,7 @@ use lib.ListN.{length, take}
 use Rattle.laws.specs.Ascii.{ascii}
 use Rattle.text.specs.Decimal.{decimal}
 use Rattle.filter_list.specs.Pattern.{downFrom}
-use Rattle.filter_report.specs.Text.{hexDigit}
+use Rattle.filter_report.specs.Hex.{hexDigit}
 
 -- no more identifiers are named in a line
 abbrev pub namedLimit : ℕ

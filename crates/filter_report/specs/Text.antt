@@ -1,15 +1,17 @@
 -- The text that the program prints for a list: its filter, or the line at fault.
 -- Source: request #102; docs/FORMATS.md, "Lists".
-use Prim.Native.Nat.{ℕ, _+_, _/_, _%_}
-use mathlib.Core.Bool.{Bool, true, false, cond}
+use Prim.Native.Nat.{ℕ}
+use mathlib.Core.Bool.{Bool, cond}
 use mathlib.Core.List.{List, [], _∷_, _++_}
-use lib.Dec.{ltb, leb}
+use lib.Dec.{leb}
 use lib.ListN.{length}
 use Rattle.laws.specs.Ascii.{ascii}
 use Rattle.identifiers.specs.Limits.{widthOf, limitOf}
 use Rattle.filter_list.specs.Pattern.{patternOf}
 use Rattle.filter_list.specs.Answers.{throughOf, registersOfList}
-use Rattle.text.specs.Decimal.{decimal}
+use Rattle.filter_report.specs.Hex.{hexOf}
+use Rattle.filter_report.specs.Listed.{listedText}
+use Rattle.filter_report.specs.Through.{throughText}
 use Rattle.filter_report.specs.Faults.{aboveText, wrongText, faultText}
 use Rattle.filter_report.specs.Lines.{Found, listed, aboveAt, wrongAt, foundIn}
 
@@ -17,25 +19,18 @@ use Rattle.filter_report.specs.Lines.{Found, listed, aboveAt, wrongAt, f
 abbrev pub textLimit : ℕ
 textLimit = 65536
 
--- bytes in hexadecimal, two digits each
-abbrev pub hexDigit : ℕ → ℕ
-hexDigit d = cond (ltb d 10) (48 + d) (55 + d)
-
-unfoldable pub hexOf : List ℕ → List ℕ
-hexOf [] = []
-hexOf (byte ∷ bytes) = hexDigit (byte / 16) ∷ hexDigit (byte % 16) ∷ hexOf bytes
-
 -- a pattern and its registers, a line each
 unfoldable pub registersText : List ℕ → List ℕ → List ℕ
 registersText pattern registers = ascii "pattern " ++ (pattern ++ (ascii "\nregisters " ++ (hexOf registers ++ ascii "\n")))
 
 -- all lines of a filter
-unfoldable pub linesText : List ℕ → List ℕ → ℕ → List ℕ
-linesText pattern registers through = registersText pattern registers ++ (ascii "identifiers " ++ (decimal through ++ ascii "\n"))
+unfoldable pub linesText : Bool → List ℕ → List ℕ → List ℕ → ℕ → List ℕ
+linesText extended list pattern registers through =
+    listedText extended list ++ (registersText pattern registers ++ throughText extended pattern list through)
 
 abbrev pub filterText : Bool → List ℕ → List ℕ
 filterText extended list =
-    linesText (patternOf (widthOf extended) list) (registersOfList extended list) (throughOf extended (registersOfList extended list))
+    linesText extended list (patternOf (widthOf extended) list) (registersOfList extended list) (throughOf extended (registersOfList extended list))
 
 abbrev pub noneText : List ℕ
 noneText = ascii "no identifiers\n"

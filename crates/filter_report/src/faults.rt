@@ -2,9 +2,10 @@
 ghost use mathlib.Core.Path.{_≡_};
 ghost use Prim.Native.Nat.{_+_, _≤_};
 ghost use lib.ListN.{length, drop};
-ghost use Rattle.laws.specs.Laid.{laidFirst, laid};
 ghost use Rattle.filter_report.specs.Faults.{printed, shownOf, faultText, aboveText, wrongText};
+ghost use Rattle.filter_report.specs.Page.{Put};
 use crate::line;
+use crate::named;
 
 // No more characters of a line are shown.
 const MOST_SHOWN: usize = 32;
@@ -30,35 +31,33 @@ fn printed_end(line: &[u8], from: usize) -> usize
 // What a line shows at a place, and the place after it.
 fn put_shown(line: &[u8], page: &mut [u8], at: usize) -> usize
     requires { ⌜ at + 34 ≤ length (now page) ⌝ }
-    ensures { λ r. ⌜ (r ≡ at + length (shownOf (now (line .entry)))) × (now (page .exit) ≡ laid at (shownOf (now (line .entry))) (now (page .entry))) ⌝ }
+    ensures { λ r. ⌜ Put at (shownOf (now (line .entry))) (now (page .entry)) (now (page .exit)) r ⌝ }
 {
     let from = line::behind_blanks(line);
     let end = printed_end(line, from);
     if end - from <= MOST_SHOWN {
-        return text::put_text(page, at, &line[from..end]);
+        return named::put_piece(page, at, &line[from..end]);
     }
     let cut = from + MOST_SHOWN;
-    let next = text::put_text(page, at, &line[from..cut]);
-    text::put_text(page, next, b"..")
+    let next = named::put_piece(page, at, &line[from..cut]);
+    named::put_piece(page, next, b"..")
 }
 
 // The text of a line at fault into the front of the page, and its length.
 fn put_fault(number: usize, line: &[u8], fault: &[u8], page: &mut [u8]) -> usize
     requires { ⌜ (number ≤ 65537) × (length (now fault) ≤ 100) × (512 ≤ length (now page)) ⌝ }
-    ensures { λ r. ⌜ (r ≡ length (faultText number (now (line .entry)) (now (fault .entry))))
-        × (now (page .exit) ≡ laidFirst (faultText number (now (line .entry)) (now (fault .entry))) (now (page .entry))) × (r ≤ 512) ⌝ }
+    ensures { λ r. ⌜ Put 0 (faultText number (now (line .entry)) (now (fault .entry))) (now (page .entry)) (now (page .exit)) r × (r ≤ 512) ⌝ }
 {
-    let first = text::put_text(page, 0, b"line ");
-    let second = text::put_decimal(page, first, number);
-    let third = text::put_text(page, second, b": \"");
+    let first = named::put_piece(page, 0, b"line ");
+    let second = named::put_number(page, first, number);
+    let third = named::put_piece(page, second, b": \"");
     let fourth = put_shown(line, page, third);
-    text::put_text(page, fourth, fault)
+    named::put_piece(page, fourth, fault)
 }
 
 pub(crate) fn put_above(extended: bool, number: usize, line: &[u8], page: &mut [u8]) -> usize
     requires { ⌜ (number ≤ 65537) × (512 ≤ length (now page)) ⌝ }
-    ensures { λ r. ⌜ (r ≡ length (faultText number (now (line .entry)) (aboveText extended)))
-        × (now (page .exit) ≡ laidFirst (faultText number (now (line .entry)) (aboveText extended)) (now (page .entry))) × (r ≤ 512) ⌝ }
+    ensures { λ r. ⌜ Put 0 (faultText number (now (line .entry)) (aboveText extended)) (now (page .entry)) (now (page .exit)) r × (r ≤ 512) ⌝ }
 {
     if extended {
         return put_fault(
@@ -78,8 +77,7 @@ pub(crate) fn put_above(extended: bool, number: usize, line: &[u8], page: &mut [
 
 pub(crate) fn put_wrong(hex: bool, number: usize, line: &[u8], page: &mut [u8]) -> usize
     requires { ⌜ (number ≤ 65537) × (512 ≤ length (now page)) ⌝ }
-    ensures { λ r. ⌜ (r ≡ length (faultText number (now (line .entry)) (wrongText hex)))
-        × (now (page .exit) ≡ laidFirst (faultText number (now (line .entry)) (wrongText hex)) (now (page .entry))) × (r ≤ 512) ⌝ }
+    ensures { λ r. ⌜ Put 0 (faultText number (now (line .entry)) (wrongText hex)) (now (page .entry)) (now (page .exit)) r × (r ≤ 512) ⌝ }
 {
     if hex {
         return put_fault(number, line, b"\" is not a hexadecimal number\n", page);

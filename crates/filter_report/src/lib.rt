@@ -8,12 +8,15 @@ mod through;
 ghost use mathlib.Core.Path.{_≡_};
 ghost use Prim.Native.Nat.{_+_, _*_, _/_, _^_, _<_, _≤_};
 ghost use lib.ListN.{length};
-ghost use Rattle.laws.specs.Laid.{laidFirst, laid, laying, written};
+ghost use Rattle.laws.specs.Laid.{laying, written};
 ghost use Rattle.text.specs.Laying.{layingSaid};
-ghost use Rattle.identifiers.specs.Limits.{limitOf};
-ghost use Rattle.filter_list.specs.Answers.{firstAbove};
+ghost use Rattle.identifiers.specs.Limits.{widthOf, limitOf};
+ghost use Rattle.filter_list.specs.Pattern.{patternOf};
+ghost use Rattle.filter_list.specs.Answers.{firstAbove, throughOf, registersOfList};
 ghost use Rattle.filter_report.specs.Lines.{foundIn};
-ghost use Rattle.filter_report.specs.Text.{textLimit, hexDigit, hexOf, registersText, linesText, filterText, listText, foundText, textOf};
+ghost use Rattle.filter_report.specs.Hex.{hexDigit, hexOf};
+ghost use Rattle.filter_report.specs.Text.{textLimit, registersText, linesText, filterText, listText, foundText, textOf};
+ghost use Rattle.filter_report.specs.Page.{Put};
 ghost use Rattle.filter_report.specs.Parts.{throughIn};
 use filter_list::Listing;
 use lines::Reading;
@@ -41,7 +44,7 @@ fn high_digit(byte: u8) -> u8
 // Bytes in hexadecimal at a place, and the place after them.
 fn put_hex(page: &mut [u8], at: usize, bytes: &[u8]) -> usize
     requires { ⌜ at + 2 * length (now bytes) ≤ length (now page) ⌝ }
-    ensures { λ r. ⌜ (r ≡ at + 2 * length (now (bytes .entry))) × (now (page .exit) ≡ laid at (hexOf (now (bytes .entry))) (now (page .entry))) ⌝ }
+    ensures { λ r. ⌜ Put at (hexOf (now (bytes .entry))) (now (page .entry)) (now (page .exit)) r ⌝ }
 {
     let mut i: usize = 0;
     while i < bytes.len() {
@@ -65,35 +68,44 @@ fn through_in(answer: Listing) -> u32
 // A pattern and its registers, a line each, at a place, and the place after them.
 fn put_registers(pattern: &[u8], registers: &[u8], page: &mut [u8], at: usize) -> usize
     requires { ⌜ (length (now pattern) ≤ 29) × (length (now registers) ≤ 8) × (at + 65 ≤ length (now page)) ⌝ }
-    ensures { λ r. ⌜ (r ≡ at + length (registersText (now (pattern .entry)) (now (registers .entry))))
-        × (now (page .exit) ≡ laid at (registersText (now (pattern .entry)) (now (registers .entry))) (now (page .entry))) ⌝ }
+    ensures { λ r. ⌜ Put at (registersText (now (pattern .entry)) (now (registers .entry))) (now (page .entry)) (now (page .exit)) r × (r ≤ at + 65) ⌝ }
 {
-    let first = text::put_text(page, at, b"pattern ");
-    let second = text::put_text(page, first, pattern);
-    let third = text::put_text(page, second, b"\nregisters ");
+    let first = named::put_piece(page, at, b"pattern ");
+    let second = named::put_piece(page, first, pattern);
+    let third = named::put_piece(page, second, b"\nregisters ");
     let fourth = put_hex(page, third, registers);
-    text::put_text(page, fourth, b"\n")
+    named::put_piece(page, fourth, b"\n")
 }
 
 // All lines of a filter into the front of the page, and their length.
-fn put_lines(pattern: &[u8], registers: &[u8], through: usize, page: &mut [u8]) -> usize
-    requires { ⌜ (length (now pattern) ≤ 29) × (length (now registers) ≤ 8) × (through < 2 ^ 32) × (512 ≤ length (now page)) ⌝ }
-    ensures { λ r. ⌜ (r ≡ length (linesText (now (pattern .entry)) (now (registers .entry)) through))
-        × (now (page .exit) ≡ laidFirst (linesText (now (pattern .entry)) (now (registers .entry)) through) (now (page .entry))) × (r ≤ 512) ⌝ }
+fn put_lines(
+    extended: bool,
+    list: &[u32],
+    pattern: &[u8],
+    registers: &[u8],
+    through: usize,
+    page: &mut [u8],
+) -> usize
+    requires { ⌜ (length (now list) ≤ 32768)
+        × (firstAbove (limitOf extended) (now list) ≡ length (now list))
+        × (now pattern ≡ patternOf (widthOf extended) (now list))
+        × (length (now registers) ≤ 8)
+        × (through ≡ throughOf extended (registersOfList extended (now list)))
+        × (512 ≤ length (now page)) ⌝ }
+    ensures { λ r. ⌜ Put 0 (linesText extended (now (list .entry)) (now (pattern .entry)) (now (registers .entry)) through) (now (page .entry)) (now (page .exit)) r × (r ≤ 512) ⌝ }
 {
-    let first = put_registers(pattern, registers, page, 0);
-    let second = text::put_text(page, first, b"identifiers ");
-    let third = text::put_decimal(page, second, through);
-    text::put_text(page, third, b"\n")
+    let first = named::put_listed(extended, list, page, 0);
+    let second = put_registers(pattern, registers, page, first);
+    through::put_through(extended, pattern, list, through, page, second)
 }
 
 // The text of a list's filter into the front of the page, and its length.
 fn put_filter(extended: bool, list: &[u32], page: &mut [u8]) -> usize
     requires { ⌜ (0 < length (now list))
+        × (length (now list) ≤ 32768)
         × (firstAbove (limitOf extended) (now list) ≡ length (now list))
         × (512 ≤ length (now page)) ⌝ }
-    ensures { λ r. ⌜ (r ≡ length (filterText extended (now (list .entry))))
-        × (now (page .exit) ≡ laidFirst (filterText extended (now (list .entry))) (now (page .entry))) × (r ≤ 512) ⌝ }
+    ensures { λ r. ⌜ Put 0 (filterText extended (now (list .entry))) (now (page .entry)) (now (page .exit)) r × (r ≤ 512) ⌝ }
 {
     let mut pattern = [0u8; 29];
     let listed = filter_list::from_list(extended, list, &mut pattern);
@@ -101,6 +113,8 @@ fn put_filter(extended: bool, list: &[u32], page: &mut [u8]) -> usize
     let registers = listed.registers;
     let through = through_in(answer);
     put_lines(
+        extended,
+        list,
         &pattern[..identifiers::width(extended)],
         &registers,
         through as usize,
@@ -109,12 +123,11 @@ fn put_filter(extended: bool, list: &[u32], page: &mut [u8]) -> usize
 }
 
 fn put_list(extended: bool, list: &[u32], page: &mut [u8]) -> usize
-    requires { ⌜ (firstAbove (limitOf extended) (now list) ≡ length (now list)) × (512 ≤ length (now page)) ⌝ }
-    ensures { λ r. ⌜ (r ≡ length (listText extended (now (list .entry))))
-        × (now (page .exit) ≡ laidFirst (listText extended (now (list .entry))) (now (page .entry))) × (r ≤ 512) ⌝ }
+    requires { ⌜ (length (now list) ≤ 32768) × (firstAbove (limitOf extended) (now list) ≡ length (now list)) × (512 ≤ length (now page)) ⌝ }
+    ensures { λ r. ⌜ Put 0 (listText extended (now (list .entry))) (now (page .entry)) (now (page .exit)) r × (r ≤ 512) ⌝ }
 {
     if list.len() == 0 {
-        return text::put_text(page, 0, b"no identifiers\n");
+        return named::put_piece(page, 0, b"no identifiers\n");
     }
     put_filter(extended, list, page)
 }
@@ -122,8 +135,7 @@ fn put_list(extended: bool, list: &[u32], page: &mut [u8]) -> usize
 // The text of a list that is not too long into the front of the page, and its length.
 fn put_read(extended: bool, hex: bool, text: &[u8], page: &mut [u8]) -> usize
     requires { ⌜ (length (now text) ≤ textLimit) × (512 ≤ length (now page)) ⌝ }
-    ensures { λ r. ⌜ (r ≡ length (foundText extended hex (foundIn (limitOf extended) hex (now (text .entry)))))
-        × (now (page .exit) ≡ laidFirst (foundText extended hex (foundIn (limitOf extended) hex (now (text .entry)))) (now (page .entry))) × (r ≤ 512) ⌝ }
+    ensures { λ r. ⌜ Put 0 (foundText extended hex (foundIn (limitOf extended) hex (now (text .entry)))) (now (page .entry)) (now (page .exit)) r × (r ≤ 512) ⌝ }
 {
     let mut list = [0u32; 32768];
     let reading = lines::read_list(text, hex, identifiers::limit(extended), &mut list);
@@ -140,11 +152,10 @@ fn put_read(extended: bool, hex: bool, text: &[u8], page: &mut [u8]) -> usize
 
 fn put_whole(extended: bool, hex: bool, text: &[u8], page: &mut [u8]) -> usize
     requires { ⌜ 512 ≤ length (now page) ⌝ }
-    ensures { λ r. ⌜ (r ≡ length (textOf extended hex (now (text .entry))))
-        × (now (page .exit) ≡ laidFirst (textOf extended hex (now (text .entry))) (now (page .entry))) × (r ≤ 512) ⌝ }
+    ensures { λ r. ⌜ Put 0 (textOf extended hex (now (text .entry))) (now (page .entry)) (now (page .exit)) r × (r ≤ 512) ⌝ }
 {
     if text.len() > TEXT_LIMIT {
-        return text::put_text(page, 0, b"longer than 65536 bytes\n");
+        return named::put_piece(page, 0, b"longer than 65536 bytes\n");
     }
     put_read(extended, hex, text, page)
 }

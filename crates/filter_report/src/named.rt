@@ -3,7 +3,7 @@ ghost use mathlib.Core.Path.{_≡_};
 ghost use Prim.Native.Nat.{_+_, _*_, _/_, _%_, _^_, _<_, _≤_};
 ghost use lib.ListN.{length, take};
 ghost use Rattle.text.specs.Decimal.{decimal};
-ghost use Rattle.filter_report.specs.Text.{hexDigit};
+ghost use Rattle.filter_report.specs.Hex.{hexDigit};
 ghost use Rattle.filter_report.specs.Page.{Put};
 ghost use Rattle.filter_report.specs.Listed.{hexWidth, lastDigits, idText, idsText, frontText, listedText};
 

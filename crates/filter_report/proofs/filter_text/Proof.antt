@@ -2,13 +2,13 @@
 use Prim.Native.Nat.{ℕ}
 use mathlib.Core.Path.{_≡_, sym, ap, _∙_}
 use mathlib.Core.List.{List}
-use lib.ListN.{take, replicate}
+use lib.ListN.{take}
 use lib.Seq.{length-take-le}
 use native.Mathlib.Omega.{arith}
 use borrow.Author.Needs.{needs}
 use Rattle.laws.specs.Laid.{laying, written}
 use Rattle.filter_report.specs.Text.{textOf}
-use Rattle.filter_report.proofs.Listed.{front-is}
+use Rattle.filter_report.proofs.Page.{put-first}
 use Rattle.filter_report.proofs.filter_text.Statement.{statement}
 use Rattle.filter_report.proofs.filter_text.Tie as tie
 
@@ -22,7 +22,7 @@ array-share-prefix-page : tie.Need-array-share-prefix-page
 array-share-prefix-page c = search needs
 
 slice-aggregate-lay : tie.Need-slice-aggregate-lay
-slice-aggregate-lay c = sym (length-take-le (c .before .before .put-whole .result) (c .before .before .put-whole .last .1 .1 .1 .0) (omega (arith, c .before .before .put-whole .ensures .2, c .before .before .put-whole .kept .1 .1 .1 .0)))
+slice-aggregate-lay c = sym (length-take-le (c .before .before .put-whole .result) (c .before .before .put-whole .last .1 .1 .1 .0) (omega (arith, c .before .before .put-whole .ensures .1, c .before .before .put-whole .kept .1 .1 .1 .0)))
 
 lay-requires : tie.Need-lay-requires
 lay-requires c κs = search needs
@@ -33,7 +33,7 @@ same-length c = search needs
 returns : tie.Need-returns
 returns c = let out = c .before .before .before .before .before .before .before .before .before .before .args .out .now in
     let text = textOf (c .before .before .before .before .before .before .before .before .before .before .args .extended) (c .before .before .before .before .before .before .before .before .before .before .args .hex) (c .before .before .before .before .before .before .before .before .before .before .args .text .now) in
-    let front : take (c .before .before .before .before .before .before .put-whole .result) (c .before .before .before .before .before .before .put-whole .last .1 .1 .1 .0) ≡ text = front-is text (replicate 512 0) (c .before .before .before .before .before .before .put-whole .last .1 .1 .1 .0) (c .before .before .before .before .before .before .put-whole .result) (c .before .before .before .before .before .before .put-whole .ensures .0) (c .before .before .before .before .before .before .put-whole .ensures .1) in
+    let front : take (c .before .before .before .before .before .before .put-whole .result) (c .before .before .before .before .before .before .put-whole .last .1 .1 .1 .0) ≡ text = put-first (c .before .before .before .before .before .before .put-whole .ensures .0) in
     (c .before .before .lay .ensures .0 ∙ ap (λ (t : List ℕ). laying t out) front, c .before .before .lay .ensures .1 ∙ ap (λ (t : List ℕ). written (laying t out) t out) front)
 
 pub filter-text-spec : {M : Type 1} → statement M

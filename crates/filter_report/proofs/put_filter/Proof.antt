@@ -8,8 +8,10 @@ use native.Mathlib.Omega.{arith}
 use borrow.Author.Needs.{needs}
 use Rattle.identifiers.specs.Limits.{widthOf}
 use Rattle.filter_list.specs.Pattern.{patternOf}
-use Rattle.filter_report.specs.Text.{linesText, filterText}
-use Rattle.filter_report.proofs.Listed.{through-made, registers-made, pattern-made, put-as}
+use Rattle.filter_list.specs.Answers.{throughOf, registersOfList}
+use Rattle.filter_report.specs.Text.{linesText}
+use Rattle.filter_report.proofs.Page.{put-equal}
+use Rattle.filter_report.proofs.Listed.{through-made, registers-made, pattern-made}
 use Rattle.filter_report.proofs.put_filter.Statement.{statement}
 use Rattle.filter_report.proofs.put_filter.Tie as tie
 
@@ -38,22 +40,37 @@ cast-put-lines : tie.Need-cast-put-lines
 cast-put-lines c = search needs
 
 put-lines-requires : tie.Need-put-lines-requires
-put-lines-requires c κs = let long : length (c .before .before .before .before .before .before .before .from-list .result .registers) ≡ 8 = search needs in
-    (omega (arith, length-take-le (c .before .before .before .width .result) (c .before .before .before .before .before .before .before .from-list .last .1 .1 .0) (omega (arith, c .before .before .before .width .ensures .1, c .before .before .before .before .before .before .before .from-list .kept .1 .1 .0)), c .before .before .before .width .ensures .1), omega (arith, long), c .before .before .before .before .through-in .ensures .1, c .before .before .before .before .before .before .before .before .before .before .before .pre .2)
+put-lines-requires c κs =
+    let start = c .before .before .before .before .before .before .before .before .before .before .before in
+    let extended = start .args .extended in
+    let list = start .args .list .now in
+    let from-list = c .before .before .before .before .before .before .before .from-list in
+    let pattern = from-list .last .1 .1 .0 in
+    let width = c .before .before .before .width in
+    let through-in = c .before .before .before .before .through-in in
+    let front : take (width .result) pattern ≡ patternOf (widthOf extended) list = ap (λ (n : ℕ). take n pattern) (width .ensures .0) ∙ pattern-made extended list (start .pre .0) (start .pre .2) (replicate 29 0) pattern refl (from-list .ensures .1) in
+    let through : through-in .result ≡ throughOf extended (registersOfList extended list) = through-in .ensures .0 ∙ through-made extended list (start .pre .0) (start .pre .2) (from-list .result) (from-list .ensures .0) in
+    let long : length (from-list .result .registers) ≡ 8 = search needs in
+    (start .pre .1, start .pre .2, front, omega (arith, long), through, start .pre .3)
 
 same-length : tie.Need-same-length
 same-length c = search needs
 
 returns : tie.Need-returns
-returns c = let list = c .before .before .before .before .before .before .before .before .before .before .before .before .before .before .args .list .now in
-    let made = c .before .before .before .before .before .before .before .before .before .before .from-list .result in
-    let pattern = c .before .before .before .before .before .before .before .before .before .before .from-list .last .1 .1 .0 in
-    let front : take (c .before .before .before .before .before .before .width .result) pattern ≡ patternOf (widthOf (c .before .before .before .before .before .before .before .before .before .before .before .before .before .before .args .extended)) list = ap (λ (n : ℕ). take n pattern) (c .before .before .before .before .before .before .width .ensures .0) ∙ pattern-made (c .before .before .before .before .before .before .before .before .before .before .before .before .before .before .args .extended) list (c .before .before .before .before .before .before .before .before .before .before .before .before .before .before .pre .0) (c .before .before .before .before .before .before .before .before .before .before .before .before .before .before .pre .1) (replicate 29 0) pattern refl (c .before .before .before .before .before .before .before .before .before .before .from-list .ensures .1) in
-    let registers = registers-made (c .before .before .before .before .before .before .before .before .before .before .before .before .before .before .args .extended) list (c .before .before .before .before .before .before .before .before .before .before .before .before .before .before .pre .0) (c .before .before .before .before .before .before .before .before .before .before .before .before .before .before .pre .1) made (c .before .before .before .before .before .before .before .before .before .before .from-list .ensures .0) in
-    let through = c .before .before .before .before .before .before .before .through-in .ensures .0 ∙ through-made (c .before .before .before .before .before .before .before .before .before .before .before .before .before .before .args .extended) list (c .before .before .before .before .before .before .before .before .before .before .before .before .before .before .pre .0) (c .before .before .before .before .before .before .before .before .before .before .before .before .before .before .pre .1) made (c .before .before .before .before .before .before .before .before .before .before .from-list .ensures .0) in
-    put-as (linesText (take (c .before .before .before .before .before .before .width .result) pattern) (made .registers) (c .before .before .before .before .before .before .before .through-in .result)) (filterText (c .before .before .before .before .before .before .before .before .before .before .before .before .before .before .args .extended) list) (c .before .before .before .before .before .before .before .before .before .before .before .before .before .before .args .page .now) _ _
-    (ap (λ (t : List ℕ). linesText t (made .registers) (c .before .before .before .before .before .before .before .through-in .result)) front ∙ ap₂ (λ (r : List ℕ) (n : ℕ). linesText (patternOf (widthOf (c .before .before .before .before .before .before .before .before .before .before .before .before .before .before .args .extended)) list) r n) registers through)
-    (c .before .before .put-lines .ensures)
+returns c =
+    let start = c .before .before .before .before .before .before .before .before .before .before .before .before .before .before in
+    let extended = start .args .extended in
+    let list = start .args .list .now in
+    let from-list = c .before .before .before .before .before .before .before .before .before .before .from-list in
+    let pattern = from-list .last .1 .1 .0 in
+    let width = c .before .before .before .before .before .before .width in
+    let through-in = c .before .before .before .before .before .before .before .through-in in
+    let front : take (width .result) pattern ≡ patternOf (widthOf extended) list = ap (λ (n : ℕ). take n pattern) (width .ensures .0) ∙ pattern-made extended list (start .pre .0) (start .pre .2) (replicate 29 0) pattern refl (from-list .ensures .1) in
+    let through : through-in .result ≡ throughOf extended (registersOfList extended list) = through-in .ensures .0 ∙ through-made extended list (start .pre .0) (start .pre .2) (from-list .result) (from-list .ensures .0) in
+    let registers = registers-made extended list (start .pre .0) (start .pre .2) (from-list .result) (from-list .ensures .0) in
+    let same = ap (λ (t : List ℕ). linesText extended list t (from-list .result .registers) (through-in .result)) front
+    ∙ ap₂ (λ (r : List ℕ) (n : ℕ). linesText extended list (patternOf (widthOf extended) list) r n) registers through in
+    (put-equal same (c .before .before .put-lines .ensures .0), c .before .before .put-lines .ensures .1)
 
 pub put-filter-spec : {M : Type 1} → statement M
 put-filter-spec =

@@ -5,8 +5,8 @@ use lib.ListN.{length, take, length-set}
 use lib.Seq.{take-length}
 use native.Mathlib.Omega.{arith}
 use Rattle.laws.specs.Laid.{laid}
-use Rattle.filter_report.specs.Text.{hexOf}
-use Rattle.filter_report.proofs.Page.{hex-none, hex-turn}
+use Rattle.filter_report.specs.Hex.{hexOf}
+use Rattle.filter_report.proofs.Page.{hex-long, hex-none, hex-turn}
 use Rattle.filter_report.proofs.put_hex.Statement.{statement}
 use Rattle.filter_report.proofs.put_hex.Tie as tie
 
@@ -69,7 +69,10 @@ same-length c = c .before .loop .inv .2
 
 returns : tie.Need-returns Inv-loop μ-loop
 returns c = let all : c .before .loop .i ≡ length (c .before .before .before .before .args .bytes .now) = omega arith in
-    (omega arith, c .before .loop .inv .1 ∙ rw (all, take-length))
+    record {
+      behind = omega (arith, all, hex-long (c .before .before .before .before .args .bytes .now));
+      stands = c .before .loop .inv .1 ∙ rw (all, take-length);
+    }
 
 pub put-hex-spec : {M : Type 1} → statement M
 put-hex-spec =

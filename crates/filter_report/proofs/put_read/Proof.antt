@@ -5,11 +5,10 @@ use lib.Seq.{length-take-le}
 use native.Mathlib.Omega.{arith}
 use borrow.Author.Needs.{needs}
 use Rattle.identifiers.specs.Limits.{limitOf}
-use Rattle.filter_report.specs.Faults.{aboveText, wrongText, faultText}
-use Rattle.filter_report.specs.Text.{listText, foundText}
+use Rattle.filter_report.specs.Text.{foundText}
 use Rattle.filter_report.specs.declared.lines.Reading.the-variants.{All, AboveAt, NotANumberAt}
-use Rattle.filter_report.specs.Parts.{partOf}
-use Rattle.filter_report.proofs.Listed.{put-as, within-by, found-by, all-within}
+use Rattle.filter_report.proofs.Page.{put-equal}
+use Rattle.filter_report.proofs.Listed.{within-by, found-by, all-within}
 use Rattle.filter_report.proofs.put_read.Statement.{statement}
 use Rattle.filter_report.proofs.put_read.Tie as tie
 
@@ -47,7 +46,8 @@ put-list-requires c κs =
     let read = c .before .before .before .before .before .before .read-list in
     let known = c .before .before .before .reading .given in
     let found = found-by (read .result) (All (known .0 .0)) _ (limitOf (args .extended)) (args .hex) (args .text .now) (read .last .1 .1 .1 .0) (known .1) (c .before .before .before .before .before .before .before .before .limit .ensures) (read .ensures .0) in
-    (all-within (limitOf (args .extended)) (args .hex) (args .text .now) (take (known .0 .0) (read .last .1 .1 .1 .0)) found, c .before .before .before .before .before .before .before .before .before .before .before .pre .1)
+    let within = within-by (read .result) (All (known .0 .0)) (length (args .text .now)) (length (read .last .1 .1 .1 .0)) (known .1) (read .ensures .1) in
+    (omega (arith, length-take-le (known .0 .0) (read .last .1 .1 .1 .0) within, within, read .kept .1 .1 .1 .0), all-within (limitOf (args .extended)) (args .hex) (args .text .now) (take (known .0 .0) (read .last .1 .1 .1 .0)) found, c .before .before .before .before .before .before .before .before .before .before .before .pre .1)
 
 enum-known-reading-2 : tie.Need-enum-known-reading-2
 enum-known-reading-2 c = search needs
@@ -128,7 +128,7 @@ returns c =
     let read = c .before .before .before .before .before .before .before .before .before .read-list in
     let known = c .before .before .before .before .before .before .reading .given in
     let found = found-by (read .result) (All (known .0 .0)) _ (limitOf (args .extended)) (args .hex) (args .text .now) (read .last .1 .1 .1 .0) (known .1) (c .before .before .before .before .before .before .before .before .before .before .before .limit .ensures) (read .ensures .0) in
-    put-as (listText (args .extended) (take (known .0 .0) (read .last .1 .1 .1 .0))) _ (args .page .now) _ _ (ap (foundText (args .extended) (args .hex)) found) (c .before .before .put-list .ensures)
+    (put-equal (ap (foundText (args .extended) (args .hex)) found) (c .before .before .put-list .ensures .0), c .before .before .put-list .ensures .1)
 
 same-length-2 : tie.Need-same-length-2
 same-length-2 c = search needs
@@ -139,7 +139,7 @@ returns-2 c =
     let read = c .before .before .before .before .before .before .before .before .before .read-list in
     let known = c .before .before .before .before .before .before .reading2 .given in
     let found = found-by (read .result) (AboveAt (known .0 .0) (known .0 .1 .0) (known .0 .1 .1 .0)) _ (limitOf (args .extended)) (args .hex) (args .text .now) (read .last .1 .1 .1 .0) (known .1) (c .before .before .before .before .before .before .before .before .before .before .before .limit .ensures) (read .ensures .0) in
-    put-as (faultText (known .0 .0) (partOf (args .text .now) (known .0 .1 .0) (known .0 .1 .1 .0)) (aboveText (args .extended))) _ (args .page .now) _ _ (ap (foundText (args .extended) (args .hex)) found) (c .before .before .put-above .ensures)
+    (put-equal (ap (foundText (args .extended) (args .hex)) found) (c .before .before .put-above .ensures .0), c .before .before .put-above .ensures .1)
 
 same-length-3 : tie.Need-same-length-3
 same-length-3 c = search needs
@@ -150,7 +150,7 @@ returns-3 c =
     let read = c .before .before .before .before .before .before .before .before .before .read-list in
     let known = c .before .before .before .before .before .before .reading3 .given in
     let found = found-by (read .result) (NotANumberAt (known .0 .0) (known .0 .1 .0) (known .0 .1 .1 .0)) _ (limitOf (args .extended)) (args .hex) (args .text .now) (read .last .1 .1 .1 .0) (known .1) (c .before .before .before .before .before .before .before .before .before .before .before .limit .ensures) (read .ensures .0) in
-    put-as (faultText (known .0 .0) (partOf (args .text .now) (known .0 .1 .0) (known .0 .1 .1 .0)) (wrongText (args .hex))) _ (args .page .now) _ _ (ap (foundText (args .extended) (args .hex)) found) (c .before .before .put-wrong .ensures)
+    (put-equal (ap (foundText (args .extended) (args .hex)) found) (c .before .before .put-wrong .ensures .0), c .before .before .put-wrong .ensures .1)
 
 pub put-read-spec : {M : Type 1} → statement M
 put-read-spec =

@@ -3,16 +3,15 @@ use lib.ListN.{length}
 use native.Mathlib.Omega.{arith}
 use borrow.Author.Tests.{le-leb, lt-leb}
 use borrow.Author.Needs.{needs}
-use Rattle.text.proofs.Put.{place-put, text-put}
-use Rattle.filter_report.specs.Text.{longText, textOf}
+use Rattle.filter_report.specs.Text.{textOf}
 use Rattle.filter_report.proofs.put_whole.Statement.{statement}
 use Rattle.filter_report.proofs.put_whole.Tie as tie
 
-slice-aggregate-put-text : tie.Need-slice-aggregate-put-text
-slice-aggregate-put-text c = search needs
+slice-aggregate-put-piece : tie.Need-slice-aggregate-put-piece
+slice-aggregate-put-piece c = search needs
 
-put-text-requires : tie.Need-put-text-requires
-put-text-requires c κs = search needs
+put-piece-requires : tie.Need-put-piece-requires
+put-piece-requires c κs = search needs
 
 same-length : tie.Need-same-length
 same-length c = search needs
@@ -20,8 +19,8 @@ same-length c = search needs
 returns : tie.Need-returns
 unfolding textOf
 returns c =
-    let place = place-put 0 _ longText (c .before .before .before .before .before .before .before .before .args .page .now) (c .before .before .put-text .ensures .0) (omega arith) in
-    rw (lt-leb (length (c .before .before .before .before .before .before .before .before .args .text .now)) 65536 (c .before .before .before .before .before .if1 .taken)) (place, text-put 0 longText (c .before .before .before .before .before .before .before .before .args .page .now) _ (c .before .before .put-text .ensures .1) (omega arith), omega (arith, place))
+    let put = c .before .before .put-piece in
+    rw (lt-leb (length (c .before .before .before .before .before .before .before .before .args .text .now)) 65536 (c .before .before .before .before .before .if1 .taken)) (put .ensures, omega (arith, put .ensures .behind))
 
 put-read-requires : tie.Need-put-read-requires
 put-read-requires c κs = search needs
@@ -37,8 +36,8 @@ pub put-whole-spec : {M : Type 1} → statement M
 put-whole-spec =
     tie.close
     (tie.spec
-    slice-aggregate-put-text
-    put-text-requires
+    slice-aggregate-put-piece
+    put-piece-requires
     same-length
     returns
     put-read-requires

@@ -2,7 +2,7 @@
 use Prim.Native.Nat.{ℕ, _/_, _%_}
 use mathlib.Core.Path.{ap, _∙_}
 use borrow.Author.Needs.{needs}
-use Rattle.filter_report.specs.Text.{hexDigit}
+use Rattle.filter_report.specs.Hex.{hexDigit}
 use Rattle.filter_report.proofs.Ids.{four-bits}
 use Rattle.filter_report.proofs.named.digit_at.Statement.{statement}
 use Rattle.filter_report.proofs.named.digit_at.Tie as tie

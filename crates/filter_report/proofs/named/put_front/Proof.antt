@@ -1,7 +1,8 @@
 -- `filter_report::named::put_front` meets its contract: all entries, or the first of them and two points. Assumes nothing.
 use native.Mathlib.Omega.{arith}
 use borrow.Author.Needs.{needs}
-use Rattle.filter_report.proofs.Ids.{put-then, put-equal, ids-first, front-few, front-many}
+use Rattle.filter_report.proofs.Page.{put-then, put-equal}
+use Rattle.filter_report.proofs.Ids.{ids-first, front-few, front-many}
 use Rattle.filter_report.proofs.named.put_front.Statement.{statement}
 use Rattle.filter_report.proofs.named.put_front.Tie as tie
 

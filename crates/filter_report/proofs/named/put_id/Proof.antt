@@ -1,7 +1,8 @@
 -- `filter_report::named::put_id` meets its contract: the digits stand behind `0x`. Assumes nothing.
 use native.Mathlib.Omega.{arith}
 use borrow.Author.Needs.{needs}
-use Rattle.filter_report.proofs.Ids.{put-then, put-equal, id-is}
+use Rattle.filter_report.proofs.Page.{put-then, put-equal}
+use Rattle.filter_report.proofs.Ids.{id-is}
 use Rattle.filter_report.proofs.named.put_id.Statement.{statement}
 use Rattle.filter_report.proofs.named.put_id.Tie as tie
 

@@ -6,7 +6,8 @@ use native.Mathlib.Omega.{arith}
 use borrow.Author.Needs.{needs}
 use Rattle.filter_report.specs.Page.{Put}
 use Rattle.filter_report.specs.Listed.{idsText}
-use Rattle.filter_report.proofs.Ids.{put-then, put-none, put-equal, ids-none, ids-first, ids-turn}
+use Rattle.filter_report.proofs.Page.{put-then, put-none, put-equal}
+use Rattle.filter_report.proofs.Ids.{ids-none, ids-first, ids-turn}
 use Rattle.filter_report.proofs.named.put_ids.Statement.{statement}
 use Rattle.filter_report.proofs.named.put_ids.Tie as tie
 

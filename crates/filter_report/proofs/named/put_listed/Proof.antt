@@ -4,7 +4,8 @@ use native.Mathlib.Omega.{arith}
 use borrow.Author.Needs.{needs}
 use Rattle.text.proofs.Decimal.{decimal-long}
 use Rattle.filter_report.specs.Listed.{listedText}
-use Rattle.filter_report.proofs.Ids.{line-put, front-long}
+use Rattle.filter_report.proofs.Page.{line-put}
+use Rattle.filter_report.proofs.Ids.{front-long}
 use Rattle.filter_report.proofs.named.put_listed.Statement.{statement}
 use Rattle.filter_report.proofs.named.put_listed.Tie as tie
 

@@ -8,7 +8,8 @@ use native.Mathlib.Omega.{arith}
 use Rattle.filter_report.specs.Page.{Put}
 use Rattle.filter_report.specs.Listed.{idsText}
 use Rattle.filter_report.specs.Through.{membersOf, without}
-use Rattle.filter_report.proofs.Ids.{put-then, put-none, put-equal, ids-none, ids-long, ids-join}
+use Rattle.filter_report.proofs.Page.{put-then, put-none, put-equal}
+use Rattle.filter_report.proofs.Ids.{ids-none, ids-long, ids-join}
 use Rattle.filter_report.proofs.Unlisted.{without-none, without-turn, without-part}
 use Rattle.filter_report.proofs.through.put_others.Statement.{statement}
 use Rattle.filter_report.proofs.through.put_others.Tie as tie

@@ -9,7 +9,7 @@ use Rattle.laws.specs.Ascii.{ascii}
 use Rattle.text.specs.Decimal.{decimal}
 use Rattle.text.proofs.Decimal.{decimal-long}
 use Rattle.filter_report.specs.Through.{notListed}
-use Rattle.filter_report.proofs.Ids.{put-then, put-equal}
+use Rattle.filter_report.proofs.Page.{put-then, put-equal}
 use Rattle.filter_report.proofs.Unlisted.{rest-none, rest-few, rest-many}
 use Rattle.filter_report.proofs.through.put_rest.Statement.{statement}
 use Rattle.filter_report.proofs.through.put_rest.Tie as tie

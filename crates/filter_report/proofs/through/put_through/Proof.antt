@@ -6,7 +6,7 @@ use native.Mathlib.Omega.{arith}
 use borrow.Author.Needs.{needs}
 use Rattle.filter_report.specs.Through.{membersOf, different, notListed, throughText}
 use Rattle.filter_report.proofs.Listed.{width-small, pattern-long}
-use Rattle.filter_report.proofs.Ids.{line-put}
+use Rattle.filter_report.proofs.Page.{line-put}
 use Rattle.filter_report.proofs.Passing.{through-members, through-small, through-digits, through-others, rest-short}
 use Rattle.filter_report.proofs.through.put_through.Statement.{statement}
 use Rattle.filter_report.proofs.through.put_through.Tie as tie

@@ -4,7 +4,8 @@ use lib.ListN.{length}
 use native.Mathlib.Omega.{arith}
 use borrow.Author.Needs.{needs}
 use Rattle.filter_report.specs.Listed.{idsText}
-use Rattle.filter_report.proofs.Ids.{put-none, put-equal, ids-none, id-alone}
+use Rattle.filter_report.proofs.Page.{put-none, put-equal}
+use Rattle.filter_report.proofs.Ids.{ids-none, id-alone}
 use Rattle.filter_report.proofs.Unlisted.{without-listed, without-other}
 use Rattle.filter_report.proofs.through.put_unless.Statement.{statement}
 use Rattle.filter_report.proofs.through.put_unless.Tie as tie
