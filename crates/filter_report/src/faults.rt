@@ -5,7 +5,7 @@ ghost use lib.ListN.{length, drop};
 ghost use Rattle.filter_report.specs.Faults.{printed, shownOf, faultText, aboveText, wrongText};
 ghost use Rattle.filter_report.specs.Page.{Put};
 use crate::line;
-use crate::named;
+use crate::pieces;
 
 // No more characters of a line are shown.
 const MOST_SHOWN: usize = 32;
@@ -36,11 +36,11 @@ fn put_shown(line: &[u8], page: &mut [u8], at: usize) -> usize
     let from = line::behind_blanks(line);
     let end = printed_end(line, from);
     if end - from <= MOST_SHOWN {
-        return named::put_piece(page, at, &line[from..end]);
+        return pieces::put_piece(page, at, &line[from..end]);
     }
     let cut = from + MOST_SHOWN;
-    let next = named::put_piece(page, at, &line[from..cut]);
-    named::put_piece(page, next, b"..")
+    let next = pieces::put_piece(page, at, &line[from..cut]);
+    pieces::put_piece(page, next, b"..")
 }
 
 // The text of a line at fault into the front of the page, and its length.
@@ -48,11 +48,11 @@ fn put_fault(number: usize, line: &[u8], fault: &[u8], page: &mut [u8]) -> usize
     requires { ⌜ (number ≤ 65537) × (length (now fault) ≤ 100) × (512 ≤ length (now page)) ⌝ }
     ensures { λ r. ⌜ Put 0 (faultText number (now (line .entry)) (now (fault .entry))) (now (page .entry)) (now (page .exit)) r × (r ≤ 512) ⌝ }
 {
-    let first = named::put_piece(page, 0, b"line ");
-    let second = named::put_number(page, first, number);
-    let third = named::put_piece(page, second, b": \"");
+    let first = pieces::put_piece(page, 0, b"line ");
+    let second = pieces::put_number(page, first, number);
+    let third = pieces::put_piece(page, second, b": \"");
     let fourth = put_shown(line, page, third);
-    named::put_piece(page, fourth, fault)
+    pieces::put_piece(page, fourth, fault)
 }
 
 pub(crate) fn put_above(extended: bool, number: usize, line: &[u8], page: &mut [u8]) -> usize

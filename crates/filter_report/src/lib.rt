@@ -3,10 +3,11 @@ mod faults;
 mod line;
 mod lines;
 mod named;
+mod pieces;
 mod through;
 
 ghost use mathlib.Core.Path.{_≡_};
-ghost use Prim.Native.Nat.{_+_, _*_, _/_, _^_, _<_, _≤_};
+ghost use Prim.Native.Nat.{_+_, _^_, _<_, _≤_};
 ghost use lib.ListN.{length};
 ghost use Rattle.laws.specs.Laid.{laying, written};
 ghost use Rattle.text.specs.Laying.{layingSaid};
@@ -14,7 +15,6 @@ ghost use Rattle.identifiers.specs.Limits.{widthOf, limitOf};
 ghost use Rattle.filter_list.specs.Pattern.{patternOf};
 ghost use Rattle.filter_list.specs.Answers.{firstAbove, throughOf, registersOfList};
 ghost use Rattle.filter_report.specs.Lines.{foundIn};
-ghost use Rattle.filter_report.specs.Hex.{hexDigit, hexOf};
 ghost use Rattle.filter_report.specs.Text.{textLimit, registersText, linesText, filterText, listText, foundText, textOf};
 ghost use Rattle.filter_report.specs.Page.{Put};
 ghost use Rattle.filter_report.specs.Parts.{throughIn};
@@ -24,37 +24,6 @@ use text::Laying;
 
 // A longer text is not read.
 pub const TEXT_LIMIT: usize = 65536;
-
-fn hex_digit(digit: u8) -> u8
-    requires { ⌜ digit < 16 ⌝ }
-    ensures { λ r. ⌜ r ≡ hexDigit digit ⌝ }
-{
-    if digit < 10 {
-        return 48 + digit;
-    }
-    55 + digit
-}
-
-fn high_digit(byte: u8) -> u8
-    ensures { λ r. ⌜ r ≡ hexDigit (byte / 16) ⌝ }
-{
-    hex_digit(byte / 16)
-}
-
-// Bytes in hexadecimal at a place, and the place after them.
-fn put_hex(page: &mut [u8], at: usize, bytes: &[u8]) -> usize
-    requires { ⌜ at + 2 * length (now bytes) ≤ length (now page) ⌝ }
-    ensures { λ r. ⌜ Put at (hexOf (now (bytes .entry))) (now (page .entry)) (now (page .exit)) r ⌝ }
-{
-    let mut i: usize = 0;
-    while i < bytes.len() {
-        let byte = bytes[i];
-        page[at + 2 * i] = high_digit(byte);
-        page[at + 2 * i + 1] = hex_digit(byte % 16);
-        i += 1;
-    }
-    at + 2 * i
-}
 
 fn through_in(answer: Listing) -> u32
     ensures { λ r. ⌜ (r ≡ throughIn answer) × (r < 2 ^ 32) ⌝ }
@@ -70,11 +39,11 @@ fn put_registers(pattern: &[u8], registers: &[u8], page: &mut [u8], at: usize) -
     requires { ⌜ (length (now pattern) ≤ 29) × (length (now registers) ≤ 8) × (at + 65 ≤ length (now page)) ⌝ }
     ensures { λ r. ⌜ Put at (registersText (now (pattern .entry)) (now (registers .entry))) (now (page .entry)) (now (page .exit)) r × (r ≤ at + 65) ⌝ }
 {
-    let first = named::put_piece(page, at, b"pattern ");
-    let second = named::put_piece(page, first, pattern);
-    let third = named::put_piece(page, second, b"\nregisters ");
-    let fourth = put_hex(page, third, registers);
-    named::put_piece(page, fourth, b"\n")
+    let first = pieces::put_piece(page, at, b"pattern ");
+    let second = pieces::put_piece(page, first, pattern);
+    let third = pieces::put_piece(page, second, b"\nregisters ");
+    let fourth = pieces::put_hex(page, third, registers);
+    pieces::put_piece(page, fourth, b"\n")
 }
 
 // All lines of a filter into the front of the page, and their length.
@@ -127,7 +96,7 @@ fn put_list(extended: bool, list: &[u32], page: &mut [u8]) -> usize
     ensures { λ r. ⌜ Put 0 (listText extended (now (list .entry))) (now (page .entry)) (now (page .exit)) r × (r ≤ 512) ⌝ }
 {
     if list.len() == 0 {
-        return named::put_piece(page, 0, b"no identifiers\n");
+        return pieces::put_piece(page, 0, b"no identifiers\n");
     }
     put_filter(extended, list, page)
 }
@@ -155,7 +124,7 @@ fn put_whole(extended: bool, hex: bool, text: &[u8], page: &mut [u8]) -> usize
     ensures { λ r. ⌜ Put 0 (textOf extended hex (now (text .entry))) (now (page .entry)) (now (page .exit)) r × (r ≤ 512) ⌝ }
 {
     if text.len() > TEXT_LIMIT {
-        return named::put_piece(page, 0, b"longer than 65536 bytes\n");
+        return pieces::put_piece(page, 0, b"longer than 65536 bytes\n");
     }
     put_read(extended, hex, text, page)
 }

@@ -2,29 +2,13 @@
 ghost use mathlib.Core.Path.{_≡_};
 ghost use Prim.Native.Nat.{_+_, _*_, _/_, _%_, _^_, _<_, _≤_};
 ghost use lib.ListN.{length, take};
-ghost use Rattle.text.specs.Decimal.{decimal};
 ghost use Rattle.filter_report.specs.Hex.{hexDigit};
 ghost use Rattle.filter_report.specs.Page.{Put};
 ghost use Rattle.filter_report.specs.Listed.{hexWidth, lastDigits, idText, idsText, frontText, listedText};
+use crate::pieces;
 
 // No more identifiers are named in a line.
 pub(crate) const NAMED_LIMIT: usize = 16;
-
-// A text on a page that has room for it, and the place behind it.
-pub(crate) fn put_piece(page: &mut [u8], at: usize, piece: &[u8]) -> usize
-    requires { ⌜ at + length (now piece) ≤ length (now page) ⌝ }
-    ensures { λ r. ⌜ Put at (now (piece .entry)) (now (page .entry)) (now (page .exit)) r ⌝ }
-{
-    text::put_text(page, at, piece)
-}
-
-// A number in decimal, likewise.
-pub(crate) fn put_number(page: &mut [u8], at: usize, n: usize) -> usize
-    requires { ⌜ at + length (decimal n) ≤ length (now page) ⌝ }
-    ensures { λ r. ⌜ Put at (decimal n) (now (page .entry)) (now (page .exit)) r ⌝ }
-{
-    text::put_decimal(page, at, n)
-}
 
 fn hex_width(extended: bool) -> usize
     ensures { λ r. ⌜ (r ≡ hexWidth extended) × (r ≤ 8) ⌝ }
@@ -40,7 +24,7 @@ fn digit_at(number: u32, position: u32) -> u8
     requires { ⌜ position < 8 ⌝ }
     ensures { λ r. ⌜ r ≡ hexDigit (number / 16 ^ position % 16) ⌝ }
 {
-    crate::hex_digit(((number >> (4 * position)) % 16) as u8)
+    pieces::hex_digit(((number >> (4 * position)) % 16) as u8)
 }
 
 // The last digits of a number in hexadecimal, as many as asked for.
@@ -60,7 +44,7 @@ pub(crate) fn put_id(extended: bool, id: u32, page: &mut [u8], at: usize) -> usi
     requires { ⌜ at + 11 ≤ length (now page) ⌝ }
     ensures { λ r. ⌜ Put at (idText extended id) (now (page .entry)) (now (page .exit)) r ⌝ }
 {
-    let digits = put_piece(page, at, b" 0x");
+    let digits = pieces::put_piece(page, at, b" 0x");
     put_last_digits(page, digits, hex_width(extended), id)
 }
 
@@ -86,7 +70,7 @@ fn put_front(extended: bool, list: &[u32], page: &mut [u8], at: usize) -> usize
         return put_ids(extended, list, list.len(), page, at);
     }
     let next = put_ids(extended, list, NAMED_LIMIT, page, at);
-    put_piece(page, next, b" ..")
+    pieces::put_piece(page, next, b" ..")
 }
 
 // The line of the listed identifiers, from a place on.
@@ -94,9 +78,9 @@ pub(crate) fn put_listed(extended: bool, list: &[u32], page: &mut [u8], at: usiz
     requires { ⌜ (length (now list) ≤ 32768) × (at + 193 ≤ length (now page)) ⌝ }
     ensures { λ r. ⌜ Put at (listedText extended (now (list .entry))) (now (page .entry)) (now (page .exit)) r × (r ≤ at + 193) ⌝ }
 {
-    let count = put_piece(page, at, b"listed ");
-    let colon = put_number(page, count, list.len());
-    let front = put_piece(page, colon, b":");
+    let count = pieces::put_piece(page, at, b"listed ");
+    let colon = pieces::put_number(page, count, list.len());
+    let front = pieces::put_piece(page, colon, b":");
     let end = put_front(extended, list, page, front);
-    put_piece(page, end, b"\n")
+    pieces::put_piece(page, end, b"\n")
 }

@@ -9,10 +9,9 @@ ghost use Rattle.filter_list.specs.Answers.{firstAbove, throughOf, registersOfL
 ghost use Rattle.filter_report.specs.Page.{Put};
 ghost use Rattle.filter_report.specs.Listed.{idsText};
 ghost use Rattle.filter_report.specs.Through.{membersOf, occurs as Through·occurs, different as Through·different, without, notListed, restText, throughText};
+use crate::named;
 use crate::named::NAMED_LIMIT;
-use crate::named::put_id;
-use crate::named::put_number;
-use crate::named::put_piece;
+use crate::pieces;
 
 // Whether a number occurs in a list from a place on.
 fn occurs(list: &[u32], from: usize, n: u32) -> bool
@@ -113,7 +112,7 @@ fn put_unless(extended: bool, list: &[u32], id: u32, page: &mut [u8], at: usize)
     if occurs(list, 0, id) {
         return at;
     }
-    put_id(extended, id, page, at)
+    named::put_id(extended, id, page, at)
 }
 
 // The identifiers that a pattern lets through and that are not listed.
@@ -155,13 +154,13 @@ fn put_rest(
 {
     let others = through - different(list);
     if others == 0 {
-        return put_piece(page, at, b" none");
+        return pieces::put_piece(page, at, b" none");
     }
     if others <= NAMED_LIMIT {
         return put_others(extended, pattern, list, through, page, at);
     }
-    let number = put_piece(page, at, b" ");
-    put_number(page, number, others)
+    let number = pieces::put_piece(page, at, b" ");
+    pieces::put_number(page, number, others)
 }
 
 // The line of what a list's pattern lets through, from a place on.
@@ -179,9 +178,9 @@ pub(crate) fn put_through(
         × (at + 212 ≤ length (now page)) ⌝ }
     ensures { λ r. ⌜ Put at (throughText extended (now (pattern .entry)) (now (list .entry)) through) (now (page .entry)) (now (page .exit)) r × (r ≤ at + 212) ⌝ }
 {
-    let number = put_piece(page, at, b"let through ");
-    let comma = put_number(page, number, through);
-    let rest = put_piece(page, comma, b", not listed:");
+    let number = pieces::put_piece(page, at, b"let through ");
+    let comma = pieces::put_number(page, number, through);
+    let rest = pieces::put_piece(page, comma, b", not listed:");
     let end = put_rest(extended, pattern, list, through, page, rest);
-    put_piece(page, end, b"\n")
+    pieces::put_piece(page, end, b"\n")
 }

@@ -1,8 +1,8 @@
--- `filter_report::hex_digit` meets its contract: both ranges are those of the definition. Assumes nothing.
+-- `filter_report::pieces::hex_digit` meets its contract: both ranges are those of the definition. Assumes nothing.
 use borrow.Author.Tests.{lt-ltb, le-ltb}
 use borrow.Author.Needs.{needs}
-use Rattle.filter_report.proofs.hex_digit.Statement.{statement}
-use Rattle.filter_report.proofs.hex_digit.Tie as tie
+use Rattle.filter_report.proofs.pieces.hex_digit.Statement.{statement}
+use Rattle.filter_report.proofs.pieces.hex_digit.Tie as tie
 
 add-result : tie.Need-add-result
 add-result c = search needs

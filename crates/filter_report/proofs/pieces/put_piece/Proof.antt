@@ -1,8 +1,8 @@
--- `filter_report::named::put_piece` meets its contract: there is room. Assumes nothing.
+-- `filter_report::pieces::put_piece` meets its contract: there is room. Assumes nothing.
 use borrow.Author.Needs.{needs}
 use Rattle.text.proofs.Put.{place-put, text-put}
-use Rattle.filter_report.proofs.named.put_piece.Statement.{statement}
-use Rattle.filter_report.proofs.named.put_piece.Tie as tie
+use Rattle.filter_report.proofs.pieces.put_piece.Statement.{statement}
+use Rattle.filter_report.proofs.pieces.put_piece.Tie as tie
 
 put-text-requires : tie.Need-put-text-requires
 put-text-requires c κs = search needs

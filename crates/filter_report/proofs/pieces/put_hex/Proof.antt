@@ -1,4 +1,4 @@
--- `filter_report::put_hex` meets its contract: at each turn one byte more is laid. Assumes nothing.
+-- `filter_report::pieces::put_hex` meets its contract: at each turn one byte more is laid. Assumes nothing.
 use Prim.Native.Nat.{_-_, _≤_}
 use mathlib.Core.Path.{_≡_, refl, _∙_}
 use lib.ListN.{length, take, length-set}
@@ -7,8 +7,8 @@ use native.Mathlib.Omega.{arith}
 use Rattle.laws.specs.Laid.{laid}
 use Rattle.filter_report.specs.Hex.{hexOf}
 use Rattle.filter_report.proofs.Page.{hex-long, hex-none, hex-turn}
-use Rattle.filter_report.proofs.put_hex.Statement.{statement}
-use Rattle.filter_report.proofs.put_hex.Tie as tie
+use Rattle.filter_report.proofs.pieces.put_hex.Statement.{statement}
+use Rattle.filter_report.proofs.pieces.put_hex.Tie as tie
 
 abbrev Inv-loop : tie.InvT-loop
 Inv-loop page₀ at bytes i₀ page i = (i ≤ length bytes) × (page ≡ laid at (hexOf (take i bytes)) page₀) × (length page ≡ length page₀)

@@ -1,9 +1,9 @@
--- `filter_report::named::put_number` meets its contract: there is room. Assumes nothing.
+-- `filter_report::pieces::put_number` meets its contract: there is room. Assumes nothing.
 use borrow.Author.Needs.{needs}
 use Rattle.text.specs.Decimal.{decimal}
 use Rattle.text.proofs.Put.{place-put, text-put}
-use Rattle.filter_report.proofs.named.put_number.Statement.{statement}
-use Rattle.filter_report.proofs.named.put_number.Tie as tie
+use Rattle.filter_report.proofs.pieces.put_number.Statement.{statement}
+use Rattle.filter_report.proofs.pieces.put_number.Tie as tie
 
 put-decimal-requires : tie.Need-put-decimal-requires
 put-decimal-requires c κs = search needs
