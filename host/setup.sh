@@ -1,7 +1,7 @@
 # Sourced by the scripts beside it: where things are, how to build and run a program, and on a machine that is not
 # x86-64 the means for both. A script that can do without them defines `lack` first, which gets the reason.
 # TWAI_SRC: the folder that holds the driver's src/twai/. RATTLE_LIB_DIR: the folder that holds libchherbolat.a.
-# CARGO_TARGET_DIR: where cargo builds.
+# CARGO_TARGET_DIR: where cargo builds. A script that does without the driver sets DRIVER to none.
 declare -F lack >/dev/null || lack() {
     echo "host: $1" >&2
     exit 1
@@ -36,8 +36,10 @@ run_program() { # PROFILE PROGRAM ARGUMENTS...
     "${EMULATOR[@]}" "$(program "$1" "$2")" "${@:3}"
 }
 
-[ -f "$TWAI_SRC/src/twai/mod.rs" ] || lack "TWAI_SRC names no folder with src/twai/mod.rs: $TWAI_SRC"
-TWAI_SRC=$(cd "$TWAI_SRC" && pwd)
+if [ "${DRIVER:-}" != none ]; then
+    [ -f "$TWAI_SRC/src/twai/mod.rs" ] || lack "TWAI_SRC names no folder with src/twai/mod.rs: $TWAI_SRC"
+    TWAI_SRC=$(cd "$TWAI_SRC" && pwd)
+fi
 command -v cargo >/dev/null || lack "cargo is missing"
 command -v cc >/dev/null || lack "cc, cargo's linker, is missing"
 [ "$(uname -m)" = x86_64 ] || . "$HOST/cross.sh"
