@@ -15,23 +15,23 @@ use Rattle.refusals.specs.declared.Refusal.the-variants.{IdentifierAboveLimit}
 use Rattle.identifiers.specs.declared.Id.{Id}
 use Rattle.identifiers.specs.Limits.{limitOf, isExtended, rawOf}
 use Rattle.identifiers.specs.declared.Id.the-variants.{Standard, Extended}
-use Rattle.frame_reading.specs.declared.Identified.the-variants.{Read, Refused}
 use Rattle.frame_reading.specs.Buffer.{Frame}
 use Rattle.frame_building.specs.Building.{judgeOf, buildOf, asked}
 use Rattle.abi_building.specs.Building.{idFrom, plain}
+use Rattle.abi_building.specs.declared.IdMade.the-variants.{Made, Refused}
 
 above : (format : Bool) (id : ℕ) (remote : Bool) (code length : ℕ) → limitOf format < id → judgeOf format id remote code length ≡ refuses 1 []
 unfolding judgeOf
 above format id remote code length h = rw (lt-leb id (limitOf format) h)
 
 -- an identifier that was made is the format and the number
-pub made-id : (extended : Bool) (id : ℕ) (i : Id) → idFrom extended id ≡ Read i → (isExtended i ≡ extended) × (rawOf i ≡ id)
+pub made-id : (extended : Bool) (id : ℕ) (i : Id) → idFrom extended id ≡ Made i → (isExtended i ≡ extended) × (rawOf i ≡ id)
 made-id true id i e =
     let same : Extended (record { 0 = id }) ≡ i = cc in
     (sym (ap isExtended same), sym (ap rawOf same))
 made-id false id i e = by (leb id 0xFFFF) e
   where
-    by : (fits : Bool) → cond fits (Read (Standard (record { 0 = id }))) (Refused IdentifierAboveLimit) ≡ Read i
+    by : (fits : Bool) → cond fits (Made (Standard (record { 0 = id }))) (Refused IdentifierAboveLimit) ≡ Made i
         → (isExtended i ≡ false) × (rawOf i ≡ id)
     by true e =
         let same : Standard (record { 0 = id }) ≡ i = cc in
@@ -44,7 +44,7 @@ pub no-id : (extended : Bool) (id : ℕ) (r : Refusal) → idFrom extended id �
 no-id true id r e remote code length = absurd (let z : _≡_ {A = ℕ} 0 1 = cc in omega arith)
 no-id false id r e remote code length = by (leb id 0xFFFF) refl e
   where
-    by : (fits : Bool) → leb id 0xFFFF ≡ fits → cond fits (Read (Standard (record { 0 = id }))) (Refused IdentifierAboveLimit) ≡ Refused r
+    by : (fits : Bool) → leb id 0xFFFF ≡ fits → cond fits (Made (Standard (record { 0 = id }))) (Refused IdentifierAboveLimit) ≡ Refused r
         → judgeOf false id remote code length ≡ refusalSaid r
     by true small e = absurd (let z : _≡_ {A = ℕ} 0 1 = cc in omega arith)
     by false large e =
@@ -52,7 +52,7 @@ no-id false id r e remote code length = by (leb id 0xFFFF) refl e
         above false id remote code length (omega (arith, leb-false id 0xFFFF large)) ∙ ap refusalSaid same
 
 -- the frame that is asked for by an identifier that was made
-pub asked-plain : (extended : Bool) (id : ℕ) (i : Id) → idFrom extended id ≡ Read i → (remote own : Bool) (code : ℕ) (payload : List ℕ)
+pub asked-plain : (extended : Bool) (id : ℕ) (i : Id) → idFrom extended id ≡ Made i → (remote own : Bool) (code : ℕ) (payload : List ℕ)
     → asked i remote own code payload ≡ plain extended id remote own code payload
 asked-plain extended id i e remote own code payload = rw (made-id extended id i e .0, made-id extended id i e .1)
 

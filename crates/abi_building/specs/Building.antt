@@ -9,15 +9,15 @@ use Rattle.laws.specs.Said.{Said}
 use Rattle.refusals.specs.declared.Refusal.the-variants.{IdentifierAboveLimit}
 use Rattle.identifiers.specs.declared.Id.the-variants.{Standard, Extended}
 use Rattle.frame_reading.specs.Buffer.{Frame}
-use Rattle.frame_reading.specs.declared.Identified.{Identified}
-use Rattle.frame_reading.specs.declared.Identified.the-variants.{Read, Refused}
 use Rattle.frame_building.specs.Building.{buildOf}
 use Rattle.abi_answers.specs.Answers.{delivering, deliveryLeaves}
+use Rattle.abi_building.specs.declared.IdMade.{IdMade}
+use Rattle.abi_building.specs.declared.IdMade.the-variants.{Made, Refused}
 
 -- the identifier of a format and a number: a standard number that no u16 holds is none
-abbrev pub idFrom : Bool → ℕ → Identified
-idFrom true raw = Read (Extended (record { 0 = raw }))
-idFrom false raw = cond (leb raw 0xFFFF) (Read (Standard (record { 0 = raw }))) (Refused IdentifierAboveLimit)
+abbrev pub idFrom : Bool → ℕ → IdMade
+idFrom true raw = Made (Extended (record { 0 = raw }))
+idFrom false raw = cond (leb raw 0xFFFF) (Made (Standard (record { 0 = raw }))) (Refused IdentifierAboveLimit)
 
 abbrev pub plain : Bool → ℕ → Bool → Bool → ℕ → List ℕ → Frame
 plain extended id remote own code payload =

@@ -8,23 +8,27 @@ use abi_answers::Answer;
 use abi_answers::Delivery;
 use frame_building::Building;
 use frame_building::Built;
-use frame_reading::Identified;
 use identifiers::ExtendedId;
 use identifiers::Id;
 use identifiers::StandardId;
 use refusals::Refusal;
 
+enum IdMade {
+    Made(Id),
+    Refused(Refusal),
+}
+
 // The identifier of a format and a number; refusal 1 for a standard number that no u16 holds.
-fn id_of(extended: bool, raw: u32) -> Identified
+fn id_of(extended: bool, raw: u32) -> IdMade
     ensures { λ r. ⌜ r ≡ idFrom extended raw ⌝ }
 {
     if extended {
-        return Identified::Read(Id::Extended(ExtendedId(raw)));
+        return IdMade::Made(Id::Extended(ExtendedId(raw)));
     }
     if raw <= 0xFFFF {
-        return Identified::Read(Id::Standard(StandardId(raw as u16)));
+        return IdMade::Made(Id::Standard(StandardId(raw as u16)));
     }
-    Identified::Refused(Refusal::IdentifierAboveLimit)
+    IdMade::Refused(Refusal::IdentifierAboveLimit)
 }
 
 // The answer of building, and the buffer in a lent frame, the argument of this number.
@@ -60,12 +64,12 @@ fn build(
         return abi_answers::wrong_length(argument);
     }
     match id_of(extended, id) {
-        Identified::Read(id) => deliver(
+        IdMade::Made(id) => deliver(
             frame_building::new_from_parameters(id, remote, own, dlc, data),
             argument,
             frame,
         ),
-        Identified::Refused(refusal) => abi_answers::refused(refusal),
+        IdMade::Refused(refusal) => abi_answers::refused(refusal),
     }
 }
 

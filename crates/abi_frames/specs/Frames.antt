@@ -1,16 +1,10 @@
--- A frame as a slice that must be 13 bytes long: the identifier's number in it, and a part of it in a lent output.
+-- A frame as a slice that must be 13 bytes long, and a part of it in a lent output.
 -- Source: the outline, "What changes shape"; docs/ABI.md.
 use Prim.Native.Nat.{ℕ}
-use mathlib.Core.Bool.{Bool}
 use mathlib.Core.List.{List}
-use Rattle.laws.specs.Said.{Said, refuses, gives}
+use Rattle.laws.specs.Said.{Said}
 use Rattle.laws.specs.Laid.{laying, written}
 use Rattle.abi_answers.specs.Answers.{whole}
-
--- an identifier without its format
-abbrev pub numberSaid : Said (Bool × ℕ) → Said ℕ
-numberSaid (gives id) = gives (id .1)
-numberSaid (refuses number carried) = refuses number carried
 
 -- a part of a frame, laid into a lent output
 abbrev pub taking : List ℕ → List ℕ → List ℕ → Said ℕ

@@ -1,29 +1,26 @@
 // What a frame of 13 bytes holds, for other languages: its identifier as an answer of two numbers, its bytes into a lent output (docs/ABI.md).
 ghost use mathlib.Core.Path.{_≡_};
-ghost use Rattle.frame_reading.specs.Buffer.{dataOf, usedOf};
-ghost use Rattle.frame_reading.specs.Reading.{identifierOf, identifiedSaid};
+ghost use Rattle.laws.specs.Said.{gives};
+ghost use Rattle.identifiers.specs.Limits.{rawOf};
+ghost use Rattle.frame_reading.specs.Buffer.{idOf, dataOf, usedOf};
 ghost use Rattle.abi_answers.specs.Answers.{answerOf, whole};
-ghost use Rattle.abi_frames.specs.Frames.{numberSaid, taking, takingLeaves};
+ghost use Rattle.abi_frames.specs.Frames.{taking, takingLeaves};
 use abi_answers::Answer;
-use frame_reading::Identified;
 use identifiers::Id;
 
-fn identifier_answer(identified: Identified) -> Answer
-    ensures { λ r. ⌜ r ≡ answerOf (numberSaid (identifiedSaid identified)) ⌝ }
+fn identifier_answer(id: Id) -> Answer
+    ensures { λ r. ⌜ r ≡ answerOf (gives (rawOf id)) ⌝ }
 {
-    match identified {
-        Identified::Read(id) => match id {
-            Id::Standard(standard) => abi_answers::given(standard.as_raw() as u64),
-            Id::Extended(extended) => abi_answers::given(extended.as_raw() as u64),
-        },
-        Identified::Refused(refusal) => abi_answers::refused(refusal),
+    match id {
+        Id::Standard(standard) => abi_answers::given(standard.as_raw() as u64),
+        Id::Extended(extended) => abi_answers::given(extended.as_raw() as u64),
     }
 }
 
 // The identifier's number; its format is `is_extended_format`.
 #[no_mangle]
 pub extern "C" fn chherbolat_identifier(frame: &[u8]) -> Answer
-    ensures { λ r. ⌜ r ≡ answerOf (whole 0 (now (frame .entry)) (numberSaid (identifierOf (now (frame .entry))))) ⌝ }
+    ensures { λ r. ⌜ r ≡ answerOf (whole 0 (now (frame .entry)) (gives (idOf (now (frame .entry))))) ⌝ }
 {
     if frame.len() != 13 {
         return abi_answers::wrong_length(0);

@@ -5,12 +5,13 @@ use mathlib.Core.Bool.{Bool, true, false}
 use mathlib.Core.List.{List}
 use native.Mathlib.Omega.{arith}
 use Rattle.laws.specs.Row.{bit}
-use Rattle.identifiers.specs.Limits.{limitOf}
+use Rattle.identifiers.specs.Limits.{limitOf, isExtended, rawOf}
+use Rattle.identifiers.specs.declared.Id.{Id}
 use Rattle.filter_compilers.specs.Table.{fieldsOf}
 use Rattle.filter_compilers.specs.Words.{one, wordOf}
 use Rattle.filter_types.proofs.Laid.{laid-single-standard, laid-single-extended, laid-dual-standard, laid-dual-extended}
-use Rattle.frame_info.specs.Info.{extendedOf, remoteOf}
-use Rattle.frame_reading.specs.Buffer.{idOf}
+use Rattle.frame_info.specs.Info.{remoteOf}
+use Rattle.frame_reading.specs.Reading.{identifierOf, idSaid}
 use Rattle.filter_matcher.specs.Fields.{byteOf, numbersIn}
 use Rattle.filter_matcher.specs.Shown.{onesAt, showBy, showOf}
 use Rattle.filter_matcher.specs.declared.shown.Shown.{Shown}
@@ -47,14 +48,13 @@ unfolding showBy numbersIn
 no-data id rtr byte next = refl
 
 -- what a frame shows, by its parts
-pub shown-by : (frame : List ℕ) (format : Bool) (id rtr byte next : ℕ) → extendedOf frame ≡ format → id ≡ idOf frame → rtr ≡ bit (remoteOf frame)
+pub shown-by : (frame : List ℕ) (format : Bool) (id rtr byte next : ℕ) → (format, id) ≡ identifierOf frame → rtr ≡ bit (remoteOf frame)
     → showBy format id rtr byte next ≡ showBy format id rtr (byteOf frame 0) (byteOf frame 1) → showBy format id rtr byte next ≡ showOf frame
-unfolding showOf
-shown-by frame format id rtr byte next own ei er ed =
-    ed
-    ∙ ap₂ (λ (i r : ℕ). showBy format i r (byteOf frame 0) (byteOf frame 1)) ei er
-    ∙ ap (λ (f : Bool). showBy f (idOf frame) (bit (remoteOf frame)) (byteOf frame 0) (byteOf frame 1)) (sym own)
+unfolding showOf identifierOf
+shown-by frame format id rtr byte next ei er ed =
+    ed ∙ ap₂ (λ (i : Bool × ℕ) (r : ℕ). showBy (i .0) (i .1) r (byteOf frame 0) (byteOf frame 1)) ei er
 
--- a number within the limit of its frame's format
-pub within-own : (frame : List ℕ) (format : Bool) (id : ℕ) → extendedOf frame ≡ format → id ≤ limitOf (extendedOf frame) → id ≤ limitOf format
-within-own frame format id own h = subst (λ (f : Bool). id ≤ limitOf f) own h
+-- an identifier that was read, as the case that it is
+pub read-as : (frame : List ℕ) (r i : Id) → r ≡ i → (idSaid r ≡ identifierOf frame) × (rawOf r ≤ limitOf (isExtended r))
+    → (idSaid i ≡ identifierOf frame) × (rawOf i ≤ limitOf (isExtended i))
+read-as frame r i e = subst (λ (x : Id). (idSaid x ≡ identifierOf frame) × (rawOf x ≤ limitOf (isExtended x))) e

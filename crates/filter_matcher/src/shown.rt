@@ -5,6 +5,9 @@ ghost use Prim.Native.Nat.{_<_, _≤_};
 ghost use lib.ListN.{getD};
 ghost use Rattle.identifiers.specs.Limits.{limitOf};
 ghost use Rattle.filter_matcher.specs.Shown.{showOf, showBy};
+use identifiers::ExtendedId;
+use identifiers::Id;
+use identifiers::StandardId;
 
 // What a frame shows: its word for a single filter and the positions that it names, and the same for the two halves of a dual filter.
 pub struct Shown {
@@ -25,12 +28,13 @@ fn byte_at(data: &[u8], at: usize) -> u32
     0
 }
 
-fn show_standard(id: u32, rtr: u32, byte: u32, next: u32) -> Shown
-    requires { ⌜ (id ≤ limitOf false) × (rtr < 2) × (byte < 256) × (next < 256) ⌝ }
-    ensures { λ r. ⌜ r ≡ showBy false id rtr byte next ⌝ }
+fn show_standard(id: StandardId, rtr: u32, byte: u32, next: u32) -> Shown
+    requires { ⌜ (id .0 ≤ limitOf false) × (rtr < 2) × (byte < 256) × (next < 256) ⌝ }
+    ensures { λ r. ⌜ r ≡ showBy false (id .0) rtr byte next ⌝ }
 {
-    let front = id * 0x20_0000 + rtr * 0x10_0000;
-    let second = id * 32 + rtr * 16;
+    let raw = id.0 as u32;
+    let front = raw * 0x20_0000 + rtr * 0x10_0000;
+    let second = raw * 32 + rtr * 16;
     Shown {
         single: front + (byte * 256 + next),
         named: 0xFFF0_FFFF,
@@ -40,13 +44,13 @@ fn show_standard(id: u32, rtr: u32, byte: u32, next: u32) -> Shown
     }
 }
 
-fn show_extended(id: u32, rtr: u32) -> Shown
-    requires { ⌜ (id ≤ limitOf true) × (rtr < 2) ⌝ }
-    ensures { λ r. ⌜ r ≡ showBy true id rtr 0 0 ⌝ }
+fn show_extended(id: ExtendedId, rtr: u32) -> Shown
+    requires { ⌜ (id .0 ≤ limitOf true) × (rtr < 2) ⌝ }
+    ensures { λ r. ⌜ r ≡ showBy true (id .0) rtr 0 0 ⌝ }
 {
-    let top = id / 0x2000;
+    let top = id.0 / 0x2000;
     Shown {
-        single: id * 8 + rtr * 4,
+        single: id.0 * 8 + rtr * 4,
         named: 0xFFFF_FFFC,
         dual: top * 0x1_0000 + top,
         first: 0xFFFF_0000,
@@ -57,11 +61,13 @@ fn show_extended(id: u32, rtr: u32) -> Shown
 pub fn show(frame: &[u8; 13]) -> Shown
     ensures { λ r. ⌜ r ≡ showOf (now (frame .entry)) ⌝ }
 {
-    let id = frame_reading::identifier_number(frame);
+    let id = frame_reading::identifier(frame);
     let rtr = octets::wide(octets::one_bit(frame_info::is_remote_request(frame)));
-    if frame_info::is_extended_format(frame) {
-        return show_extended(id, rtr);
+    match id {
+        Id::Extended(id) => show_extended(id, rtr),
+        Id::Standard(id) => {
+            let data = frame_reading::data(frame);
+            show_standard(id, rtr, byte_at(data, 0), byte_at(data, 1))
+        }
     }
-    let data = frame_reading::data(frame);
-    show_standard(id, rtr, byte_at(data, 0), byte_at(data, 1))
 }

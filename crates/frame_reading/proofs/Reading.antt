@@ -1,20 +1,17 @@
--- An identifier that is read is within its limit, so reading it is never refused: the row of its format is as wide as its bytes, and
--- its field as the limit. Assumes nothing.
+-- An identifier that is read is within its limit: the row of its format is as wide as its bytes, and its field as the limit. Assumes nothing.
 use Prim.Native.Nat.{ℕ, _+_, _≤_}
 use mathlib.Core.Path.{_≡_, refl, sym}
 use mathlib.Core.Bool.{Bool, true, false}
 use mathlib.Core.List.{List, [], _∷_}
 use lib.ListN.{getD}
 use native.Mathlib.Omega.{arith}
-use borrow.Author.Tests.{le-leb}
-use Rattle.laws.specs.Said.{gives}
 use Rattle.laws.specs.Row.{width, bytes, Fit, field}
 use Rattle.laws.specs.Tabulate.{part, Bytes}
 use Rattle.laws.proofs.Row.{regroup-fits}
 use Rattle.laws.proofs.Tabulate.{bytes-fit}
 use Rattle.identifiers.specs.Limits.{limitOf}
 use Rattle.frame_info.specs.Info.{idBytes, extendedOf}
-use Rattle.frame_reading.specs.Buffer.{idRow, idFields, idIn, idOf}
+use Rattle.frame_reading.specs.Buffer.{idRow, idFields, idIn}
 use Rattle.frame_reading.specs.Reading.{identifierOf}
 
 -- both formats' rows are as wide as their bytes
@@ -33,14 +30,14 @@ fit-limit true id spare (field w v h rest) = omega arith
 pub bytes-row-fit : (format : Bool) (b : List ℕ) → Bytes b → Fit (bytes (idBytes format)) (part b 1 (idBytes format))
 bytes-row-fit format b small = bytes-fit (idBytes format) (λ i. getD b (1 + i) 0) (λ i. small (1 + i))
 
--- an identifier that is read is within its limit
+-- in the row of either format
 pub id-within : (format : Bool) (b : List ℕ) → Bytes b → idIn format b ≤ limitOf format
 id-within format b small =
     fit-limit format (idIn format b) (getD (idFields format b) 1 0)
     (rw (two-fields format b) at
     (regroup-fits (bytes (idBytes format)) (idRow format) (part b 1 (idBytes format)) (sym (row-width format)) (bytes-row-fit format b small)))
 
--- so reading the identifier of 13 bytes is never refused
-pub identifier-given : (b : List ℕ) → Bytes b → identifierOf b ≡ gives (extendedOf b, idOf b)
+-- for all 13-byte buffers, and any other bytes: what reading gives is within the limit of the format that it gives
+pub identifier-within : (b : List ℕ) → Bytes b → identifierOf b .1 ≤ limitOf (identifierOf b .0)
 unfolding identifierOf
-identifier-given b small = rw (le-leb _ _ (id-within (extendedOf b) b small))
+identifier-within b small = id-within (extendedOf b) b small

@@ -2,21 +2,12 @@
 ghost use mathlib.Core.Path.{_≡_};
 ghost use mathlib.Core.Bool.{true, false};
 ghost use Prim.Native.Nat.{_≤_};
-ghost use Rattle.identifiers.specs.Limits.{limitOf};
-ghost use Rattle.frame_info.specs.Info.{extendedOf};
-ghost use Rattle.frame_reading.specs.Buffer.{idIn, idOf, dataOf, usedOf};
-ghost use Rattle.frame_reading.specs.Reading.{identifierOf, identifiedSaid};
+ghost use Rattle.identifiers.specs.Limits.{limitOf, isExtended, rawOf};
+ghost use Rattle.frame_reading.specs.Buffer.{idIn, dataOf, usedOf};
+ghost use Rattle.frame_reading.specs.Reading.{identifierOf, idSaid};
 use identifiers::ExtendedId;
-use identifiers::ExtendedMade;
 use identifiers::Id;
 use identifiers::StandardId;
-use identifiers::StandardMade;
-use refusals::Refusal;
-
-pub enum Identified {
-    Read(Id),
-    Refused(Refusal),
-}
 
 fn standard_raw(frame: &[u8; 13]) -> u16
     ensures { λ r. ⌜ (r ≡ idIn false (now (frame .entry))) × (r ≤ limitOf false) ⌝ }
@@ -31,29 +22,13 @@ fn extended_raw(frame: &[u8; 13]) -> u32
     octets::word(frame[1], frame[2], frame[3], frame[4]) / 8
 }
 
-pub fn identifier(frame: &[u8; 13]) -> Identified
-    ensures { λ r. ⌜ identifiedSaid r ≡ identifierOf (now (frame .entry)) ⌝ }
+pub fn identifier(frame: &[u8; 13]) -> Id
+    ensures { λ r. ⌜ (idSaid r ≡ identifierOf (now (frame .entry))) × (rawOf r ≤ limitOf (isExtended r)) ⌝ }
 {
     if frame_info::is_extended_format(frame) {
-        return match ExtendedId::new(extended_raw(frame)) {
-            ExtendedMade::Made(id) => Identified::Read(Id::Extended(id)),
-            ExtendedMade::Refused(refusal) => Identified::Refused(refusal),
-        };
+        return Id::Extended(ExtendedId(extended_raw(frame)));
     }
-    match StandardId::new(standard_raw(frame)) {
-        StandardMade::Made(id) => Identified::Read(Id::Standard(id)),
-        StandardMade::Refused(refusal) => Identified::Refused(refusal),
-    }
-}
-
-// The identifier's number, in the frame's own format.
-pub fn identifier_number(frame: &[u8; 13]) -> u32
-    ensures { λ r. ⌜ (r ≡ idOf (now (frame .entry))) × (r ≤ limitOf (extendedOf (now (frame .entry)))) ⌝ }
-{
-    if frame_info::is_extended_format(frame) {
-        return extended_raw(frame);
-    }
-    standard_raw(frame) as u32
+    Id::Standard(StandardId(standard_raw(frame)))
 }
 
 pub fn data(frame: &[u8; 13]) -> &[u8]

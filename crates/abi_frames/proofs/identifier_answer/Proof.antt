@@ -1,10 +1,7 @@
--- `abi_frames::identifier_answer` meets its contract: each case of the answer as its two numbers. Assumes nothing.
+-- `abi_frames::identifier_answer` meets its contract: each case's number is the answer. Assumes nothing.
 use borrow.Author.Needs.{needs}
 use Rattle.abi_frames.proofs.identifier_answer.Statement.{statement}
 use Rattle.abi_frames.proofs.identifier_answer.Tie as tie
-
-enum-known-identified : tie.Need-enum-known-identified
-enum-known-identified c = search needs
 
 enum-known-id : tie.Need-enum-known-id
 enum-known-id c = search needs
@@ -30,26 +27,16 @@ cast-given-2 c = search needs
 given-requires-2 : tie.Need-given-requires-2
 given-requires-2 c κs = search needs
 
-enum-known-identified-2 : tie.Need-enum-known-identified-2
-enum-known-identified-2 c = search needs
-
-refused-requires : tie.Need-refused-requires
-refused-requires c κs = search needs
-
 returns : tie.Need-returns
-returns c = rw (c .before .before .before .before .before .before .identified .given .1, c .before .before .before .id .given .1, ← c .before .as-raw .ensures) (c .given .ensures)
+returns c = rw (c .before .before .before .id .given .1, ← c .before .as-raw .ensures) (c .given .ensures)
 
 returns-2 : tie.Need-returns-2
-returns-2 c = rw (c .before .before .before .before .before .before .identified .given .1, c .before .before .before .id2 .given .1, ← c .before .as-raw2 .ensures) (c .given2 .ensures)
-
-returns-3 : tie.Need-returns-3
-returns-3 c = rw (c .before .before .identified2 .given .1) (c .refused .ensures)
+returns-2 c = rw (c .before .before .before .id2 .given .1, ← c .before .as-raw2 .ensures) (c .given2 .ensures)
 
 pub identifier-answer-spec : {M : Type 1} → statement M
 identifier-answer-spec =
     tie.close
     (tie.spec
-    enum-known-identified
     enum-known-id
     as-raw-requires
     cast-given
@@ -58,8 +45,5 @@ identifier-answer-spec =
     as-raw-requires-2
     cast-given-2
     given-requires-2
-    enum-known-identified-2
-    refused-requires
     returns
-    returns-2
-    returns-3)
+    returns-2)

@@ -5,6 +5,9 @@ use Rattle.filter_matcher.proofs.Rows.{standard-rows}
 use Rattle.filter_matcher.proofs.shown.show_standard.Statement.{statement}
 use Rattle.filter_matcher.proofs.shown.show_standard.Tie as tie
 
+cast-raw : tie.Need-cast-raw
+cast-raw c = search needs
+
 mul-front : tie.Need-mul-front
 mul-front c = search needs
 
@@ -23,45 +26,46 @@ mul-second-2 c = search needs
 add-second : tie.Need-add-second
 add-second c = search needs
 
-mul-t7 : tie.Need-mul-t7
-mul-t7 c = search needs
-
-add-t8 : tie.Need-add-t8
-add-t8 c = search needs
+mul-t8 : tie.Need-mul-t8
+mul-t8 c = search needs
 
 add-t9 : tie.Need-add-t9
 add-t9 c = search needs
 
-mul-t11 : tie.Need-mul-t11
-mul-t11 c = search needs
+add-t10 : tie.Need-add-t10
+add-t10 c = search needs
 
-add-t12 : tie.Need-add-t12
-add-t12 c = search needs
+mul-t12 : tie.Need-mul-t12
+mul-t12 c = search needs
 
-add-t14 : tie.Need-add-t14
-add-t14 c = search needs
+add-t13 : tie.Need-add-t13
+add-t13 c = search needs
 
 add-t15 : tie.Need-add-t15
 add-t15 c = search needs
 
+add-t16 : tie.Need-add-t16
+add-t16 c = search needs
+
 returns : tie.Need-returns
-returns c = standard-rows _ _ _ _ _ _ (c .pre .0) (c .pre .1) (c .pre .2) (c .pre .3) (omega arith) (omega arith)
+returns c = standard-rows _ _ _ _ _ _ (c .before .pre .0) (c .before .pre .1) (c .before .pre .2) (c .before .pre .3) (omega arith) (omega arith)
 
 pub show-standard-spec : {M : Type 1} → statement M
 show-standard-spec =
     tie.close
     (tie.spec
+    cast-raw
     mul-front
     mul-front-2
     add-front
     mul-second
     mul-second-2
     add-second
-    mul-t7
-    add-t8
+    mul-t8
     add-t9
-    mul-t11
-    add-t12
-    add-t14
+    add-t10
+    mul-t12
+    add-t13
     add-t15
+    add-t16
     returns)
