@@ -1,10 +1,8 @@
 -- What each pattern character asks for, from the tests that tell it. Assumes nothing.
-use Prim.Native.Nat.{ℕ, _+_, _*_, _^_, _<_}
-use mathlib.Core.Path.{_≡_, sym, ap, _∙_}
+use Prim.Native.Nat.{ℕ, _+_, _<_}
+use mathlib.Core.Path.{_≡_}
 use mathlib.Core.Bool.{Bool, true, false, cond}
-use lib.Bits.{bitOr, or-zero-r}
 use lib.Dec.{T, eqb}
-use native.Mathlib.Nat.{zero-mul}
 use native.Mathlib.Decide.{ℕ-discrete}
 use native.Mathlib.Omega.{arith}
 use borrow.Author.Tests.{ne-eqb}
@@ -48,7 +46,3 @@ care-lt c = care-small (eqb c 120)
 pub value : (c : ℕ) → T (isCharacter c) → (c ≡ 120 → ⊥) → c ≡ 48 + one c
 unfolding one
 value c t n = elim (ℕ-discrete c 48) [ yes e ↦ rw e | no n0 ↦ elim (ℕ-discrete c 49) [ yes e ↦ rw e | no n1 ↦ absurd (rw (character-none c n0 n1 n) at t) ] ]
-
--- a bit laid into a word: none changes nothing
-pub laid-none : (w d p : ℕ) → d ≡ 0 → w ≡ bitOr w (d * 2 ^ p)
-laid-none w d p e = sym (ap (λ (x : ℕ). bitOr w (x * 2 ^ p)) e ∙ ap (bitOr w) (zero-mul (2 ^ p)) ∙ or-zero-r w)

@@ -20,7 +20,7 @@ use Rattle.filter_compilers.specs.Answers.{charactersOf, compileOf}
 use Rattle.filter_compilers.specs.Meaning.{Matches}
 use Rattle.filter_compilers.proofs.Table.{row-distinct, row-within}
 use Rattle.filter_compilers.proofs.Characters.{one-lt, care-lt}
-use Rattle.filter_compilers.proofs.Answers.{lengths-given}
+use Rattle.filter_compilers.proofs.Lengths.{lengths-given}
 use Rattle.filter_compilers.proofs.Agree.{word-lt, law}
 
 -- the lists' lengths tell that of the lists joined

@@ -1,18 +1,16 @@
--- A word filled one character at a turn: what is filled so far and the word of what is left to read make the whole word, for `|` is associative.
--- Assumes nothing.
-use Prim.Native.Nat.{ℕ, zero, suc, _+_, _*_, _^_, _≤_, _<_}
-use mathlib.Core.Path.{_≡_, refl, sym, ap, _∙_}
-use mathlib.Core.List.{List, [], _∷_}
-use lib.Bits.{bitOr, or-zero-r}
-use lib.ListN.{length, getD, drop, take}
-use lib.Seq.{drop-cons, drop-length}
-use native.Mathlib.Nat.{add-suc, not-suc-le-zero, le-of-suc-le-suc, pow-suc}
-use native.Mathlib.Numerals.{add-one}
+-- Words of characters that stand beside each other: the words of the parts, or'd together, for `|` is associative. Assumes nothing.
+use Prim.Native.Nat.{ℕ, zero, suc, _+_, _*_, _^_, _<_}
+use mathlib.Core.Path.{_≡_, refl, sym, ap, ap₂, _∙_}
+use mathlib.Core.List.{List, [], _∷_, _++_}
+use lib.Bits.{bitOr}
+use lib.ListN.{length, drop, replicate}
+use native.Mathlib.Nat.{add-assoc, zero-add, suc-add, zero-mul, pow-suc}
 use native.Mathlib.Omega.{arith}
 use Rattle.laws.proofs.Bits.{or-assoc}
+use Rattle.filter_compilers.specs.Table.{run}
 use Rattle.filter_compilers.specs.Words.{wordOf}
 
-below-power : (n : ℕ) → n < 2 ^ n
+pub below-power : (n : ℕ) → n < 2 ^ n
 below-power zero = omega arith
 below-power (suc n) = omega (arith, below-power n, pow-suc 2 n)
 
@@ -23,32 +21,43 @@ or-three a b c =
     or-assoc (a + b + c) a b c (omega arith) (omega arith) (omega arith)
 
 module _ (digit : ℕ → ℕ) where
-  pub word-none : (ps : List ℕ) → wordOf digit ps [] ≡ 0
+  word-none : (ps : List ℕ) → wordOf digit ps [] ≡ 0
   unfolding wordOf
   word-none [] = refl
   word-none (p ∷ ps) = refl
 
-  pub word-end : (w v : ℕ) (ps s : List ℕ) (i : ℕ) → length s ≤ i → i ≤ length s → bitOr w (wordOf digit ps (drop i s)) ≡ v → w ≡ v
-  word-end w v ps s i h k e =
-      let all : i ≡ length s = omega arith in
-      let none : wordOf digit ps (drop i s) ≡ 0 = rw (all, drop-length) (word-none ps) in
-      sym (ap (bitOr w) none ∙ or-zero-r w) ∙ e
-
-  pub word-turn : (ps s : List ℕ) (at i w v r : ℕ) → i < length s → at + i < length ps → v ≡ bitOr w (digit (getD s i 0) * 2 ^ getD ps (at + i) 0)
-      → bitOr w (wordOf digit (drop (at + i) ps) (drop i s)) ≡ r → bitOr v (wordOf digit (drop (at + (i + 1)) ps) (drop (i + 1) s)) ≡ r
+  -- positions in two parts
+  pub word-split : (ps qs cs : List ℕ) → wordOf digit (ps ++ qs) cs ≡ bitOr (wordOf digit ps cs) (wordOf digit qs (drop (length ps) cs))
   unfolding wordOf
-  word-turn ps s at i w v r h k e q =
-      let bit : ℕ = digit (getD s i 0) * 2 ^ getD ps (at + i) 0 in
-      let left : ℕ = wordOf digit (drop (suc (at + i)) ps) (drop (suc i) s) in
-      let next : wordOf digit (drop (at + i) ps) (drop i s) ≡ bitOr bit left = rw (drop-cons ps (at + i) 0, drop-cons s i 0) in
-      rw (add-one, add-suc, e) (or-three w bit left ∙ ap (bitOr w) (sym next) ∙ q)
+  word-split [] qs cs = refl
+  word-split (p ∷ ps) qs [] = sym (word-none qs)
+  word-split (p ∷ ps) qs (c ∷ cs) =
+      ap (bitOr (digit c * 2 ^ p)) (word-split ps qs cs)
+      ∙ sym (or-three (digit c * 2 ^ p) (wordOf digit ps cs) (wordOf digit qs (drop (length ps) cs)))
 
-  -- positions past the last character are not used
-  pub word-take : (n : ℕ) (ps cs : List ℕ) → length cs ≤ n → wordOf digit (take n ps) cs ≡ wordOf digit ps cs
+  -- positions and characters in two parts
+  pub word-append : (ps qs cs ds : List ℕ) → length cs ≡ length ps → wordOf digit (ps ++ qs) (cs ++ ds) ≡ bitOr (wordOf digit ps cs) (wordOf digit qs ds)
   unfolding wordOf
-  word-take zero [] cs h = refl
-  word-take zero (p ∷ ps) [] h = refl
-  word-take zero (p ∷ ps) (c ∷ cs) h = absurd (not-suc-le-zero h)
-  word-take (suc n) [] cs h = refl
-  word-take (suc n) (p ∷ ps) [] h = refl
-  word-take (suc n) (p ∷ ps) (c ∷ cs) h = ap (bitOr (digit c * 2 ^ p)) (word-take n ps cs (le-of-suc-le-suc h))
+  word-append [] qs [] ds h = refl
+  word-append [] qs (c ∷ cs) ds h = absurd (omega arith)
+  word-append (p ∷ ps) qs [] ds h = absurd (omega arith)
+  word-append (p ∷ ps) qs (c ∷ cs) ds h =
+      ap (bitOr (digit c * 2 ^ p)) (word-append ps qs cs ds (omega arith))
+      ∙ sym (or-three (digit c * 2 ^ p) (wordOf digit ps cs) (wordOf digit qs ds))
+
+  -- a run of characters in two parts
+  pub word-beside : (low : ℕ) (cs ds : List ℕ) → wordOf digit (run low (length cs + length ds)) (cs ++ ds)
+      ≡ bitOr (wordOf digit (run (length ds + low) (length cs)) cs) (wordOf digit (run low (length ds)) ds)
+  unfolding wordOf
+  word-beside low [] ds = ap (λ (n : ℕ). wordOf digit (run low n) ds) (zero-add (length ds))
+  word-beside low (c ∷ cs) ds =
+      ap (λ (n : ℕ). wordOf digit (run low n) (c ∷ (cs ++ ds))) (suc-add (length cs) (length ds))
+      ∙ ap₂ (λ (n w : ℕ). bitOr (digit c * 2 ^ n) w) (add-assoc (length cs) (length ds) low) (word-beside low cs ds)
+      ∙ sym (or-three (digit c * 2 ^ (length cs + (length ds + low))) (wordOf digit (run (length ds + low) (length cs)) cs) (wordOf digit (run low (length ds)) ds))
+
+  -- `x`, where it asks for nothing
+  pub word-spared : digit 120 ≡ 0 → (low n : ℕ) → wordOf digit (run low n) (replicate n 120) ≡ 0
+  unfolding wordOf
+  word-spared z low zero = refl
+  word-spared z low (suc n) =
+      ap₂ bitOr (ap (λ (d : ℕ). d * 2 ^ (n + low)) z ∙ zero-mul (2 ^ (n + low))) (word-spared z low n)

@@ -33,7 +33,3 @@ lengths (l ∷ ls) = length l ∷ lengths ls
 -- the position of each place of a filter's patterns, the fields joined
 abbrev pub rowOf : Filter → List ℕ
 rowOf filter = joined (fieldsOf filter)
-
--- the four rows, one after the other
-unfoldable pub places : List ℕ
-places = rowOf singleStandard ++ (rowOf singleExtended ++ (rowOf dualStandard ++ rowOf dualExtended))

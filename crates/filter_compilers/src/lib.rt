@@ -1,151 +1,25 @@
-// Filter patterns: the acceptance registers that the patterns of a filter's fields ask for, by the one table of positions.
+// Filter patterns: the acceptance registers that the patterns of a filter's fields ask for. A filter's fields are drawn into a row of 32
+// characters as the manual draws the registers, bit 31 first; `x` stands where no field does.
 ghost use mathlib.Core.Path.{_≡_};
 ghost use mathlib.Core.Bool.{true};
-ghost use mathlib.Core.List.{_∷_, [], _++_};
+ghost use mathlib.Core.List.{_∷_, []};
 ghost use Prim.Native.Nat.{_+_, _-_, _*_, _/_, _%_, _^_, _<_, _≤_};
-ghost use lib.Bits.{bitOr};
-ghost use lib.ListN.{length, drop, getD, replicate};
+ghost use lib.Bits.{bitAnd, bitOr};
+ghost use lib.ListN.{length, drop, getD};
 ghost use lib.Seq.{paste};
 ghost use Rattle.laws.specs.Said.{gives};
-ghost use Rattle.filter_characters.specs.Characters.{isCharacter, allCharacters};
+ghost use Rattle.filter_characters.specs.Characters.{allCharacters, badAt};
 ghost use Rattle.filter_registers.specs.Registers.{registersOf};
 ghost use Rattle.filter_registers.specs.Answers.{compilingSaid, compiledSaid};
-ghost use Rattle.filter_compilers.specs.Table.{singleStandard, singleExtended, dualStandard, dualExtended, joined, places};
-ghost use Rattle.filter_compilers.specs.Words.{one, care, codeOf, maskOf};
+ghost use Rattle.filter_compilers.specs.Table.{singleStandard, singleExtended, dualStandard, dualExtended, run, joined};
+ghost use Rattle.filter_compilers.specs.Words.{wordOf, codeOf, maskOf};
 ghost use Rattle.filter_compilers.specs.Answers.{lengthsOf, charactersOf, answered, compileOf};
 use filter_registers::Compiled;
 use filter_registers::Compiling;
 use refusals::Refusal;
 
-// The rows of the four filters, one after the other: the register position of each pattern place.
-const PLACES: [u8; 122] = [
-    31,
-    30,
-    29,
-    28,
-    27,
-    26,
-    25,
-    24,
-    23,
-    22,
-    21,
-    20,
-    15,
-    14,
-    13,
-    12,
-    11,
-    10,
-    9,
-    8,
-    7,
-    6,
-    5,
-    4,
-    3,
-    2,
-    1,
-    0,
-    31,
-    30,
-    29,
-    28,
-    27,
-    26,
-    25,
-    24,
-    23,
-    22,
-    21,
-    20,
-    19,
-    18,
-    17,
-    16,
-    15,
-    14,
-    13,
-    12,
-    11,
-    10,
-    9,
-    8,
-    7,
-    6,
-    5,
-    4,
-    3,
-    2,
-    31,
-    30,
-    29,
-    28,
-    27,
-    26,
-    25,
-    24,
-    23,
-    22,
-    21,
-    20,
-    19,
-    18,
-    17,
-    16,
-    3,
-    2,
-    1,
-    0,
-    15,
-    14,
-    13,
-    12,
-    11,
-    10,
-    9,
-    8,
-    7,
-    6,
-    5,
-    4,
-    31,
-    30,
-    29,
-    28,
-    27,
-    26,
-    25,
-    24,
-    23,
-    22,
-    21,
-    20,
-    19,
-    18,
-    17,
-    16,
-    15,
-    14,
-    13,
-    12,
-    11,
-    10,
-    9,
-    8,
-    7,
-    6,
-    5,
-    4,
-    3,
-    2,
-    1,
-    0,
-];
-
-// A filter's row: where it starts in the table, and the widths of its fields.
-pub struct Row {
-    pub start: usize,
+// The widths of a filter's fields.
+pub struct Widths {
     pub a: usize,
     pub b: usize,
     pub c: usize,
@@ -153,123 +27,152 @@ pub struct Row {
     pub e: usize,
 }
 
-fn place(table: &[u8; 122], at: usize) -> u8
-    requires { ⌜ (at < 122) × (now table ≡ places) ⌝ }
-    ensures { λ r. ⌜ (r ≡ getD places at 0) × (r < 32) ⌝ }
+fn judge_lengths(widths: Widths, a: usize, b: usize, c: usize, d: usize, e: usize) -> Compiling
+    ensures { λ r. ⌜ compilingSaid r ≡ lengthsOf 0 (widths .a ∷ widths .b ∷ widths .c ∷ widths .d ∷ widths .e ∷ []) (a ∷ b ∷ c ∷ d ∷ e ∷ []) (gives 8) ⌝ }
 {
-    table[at]
-}
-
-// Both words in one, the mask's bits above the code's: `0` and 0xFFFF_FFD0 make 2^32.
-fn read(table: &[u8; 122], words: u64, at: usize, character: u8) -> u64
-    requires { ⌜ (at < 122) × (now table ≡ places) × (isCharacter character ≡ true) ⌝ }
-    ensures { λ r. ⌜ r ≡ bitOr words ((care character * 2 ^ 32 + one character) * 2 ^ getD places at 0) ⌝ }
-{
-    if character != b'x' {
-        let both = (character as u64) + 0xFFFF_FFD0;
-        return words | (both << (place(table, at) as u32));
-    }
-    words
-}
-
-// Both words of good characters. The table is read once, and not at each look.
-fn fill(start: usize, characters: &[u8]) -> u64
-    requires { ⌜ (start + length (now characters) ≤ 122) × (allCharacters (now characters) ≡ true) ⌝ }
-    ensures { λ r. ⌜ (r % 2 ^ 32 ≡ codeOf (drop start places) (now (characters .entry))) × (r / 2 ^ 32 ≡ maskOf (drop start places) (now (characters .entry))) ⌝ }
-{
-    let table = PLACES;
-    let mut words = 0;
-    let mut i = 0;
-    while i < characters.len() {
-        words = read(&table, words, start + i, characters[i]);
-        i += 1;
-    }
-    words
-}
-
-// The characters with one field's pattern from `at` on.
-fn with_field(characters: [u8; 32], at: usize, pattern: &[u8]) -> [u8; 32]
-    requires { ⌜ at + length (now pattern) ≤ 32 ⌝ }
-    ensures { λ r. ⌜ r ≡ paste characters at (now (pattern .entry)) (length (now (pattern .entry))) ⌝ }
-{
-    let mut filled = characters;
-    text::put_text(&mut filled, at, pattern);
-    filled
-}
-
-// The fields one after the other, and `x` after them.
-fn join(a: &[u8], b: &[u8], c: &[u8], d: &[u8], e: &[u8]) -> [u8; 32]
-    requires { ⌜ length (now a) + length (now b) + length (now c) + length (now d) + length (now e) ≤ 32 ⌝ }
-    ensures { λ r. ⌜ r ≡ joined (now (a .entry) ∷ now (b .entry) ∷ now (c .entry) ∷ now (d .entry) ∷ now (e .entry) ∷ [])
-        ++ replicate (32 - length (joined (now (a .entry) ∷ now (b .entry) ∷ now (c .entry) ∷ now (d .entry) ∷ now (e .entry) ∷ []))) 120 ⌝ }
-{
-    let second = a.len();
-    let third = second + b.len();
-    let fourth = third + c.len();
-    let fifth = fourth + d.len();
-    let none = [b'x'; 32];
-    let one = with_field(none, 0, a);
-    let two = with_field(one, second, b);
-    let three = with_field(two, third, c);
-    let four = with_field(three, fourth, d);
-    with_field(four, fifth, e)
-}
-
-fn judge_lengths(row: Row, a: usize, b: usize, c: usize, d: usize, e: usize) -> Compiling
-    ensures { λ r. ⌜ compilingSaid r ≡ lengthsOf 0 (row .a ∷ row .b ∷ row .c ∷ row .d ∷ row .e ∷ []) (a ∷ b ∷ c ∷ d ∷ e ∷ []) (gives 8) ⌝ }
-{
-    if a != row.a {
+    if a != widths.a {
         return Compiling::Refused(Refusal::PatternLength(0));
     }
-    if b != row.b {
+    if b != widths.b {
         return Compiling::Refused(Refusal::PatternLength(1));
     }
-    if c != row.c {
+    if c != widths.c {
         return Compiling::Refused(Refusal::PatternLength(2));
     }
-    if d != row.d {
+    if d != widths.d {
         return Compiling::Refused(Refusal::PatternLength(3));
     }
-    if e != row.e {
+    if e != widths.e {
         return Compiling::Refused(Refusal::PatternLength(4));
     }
     Compiling::Made
 }
 
-// The answer for characters that stand in the places from `start` on.
-fn compile(start: usize, joined: &[u8; 32]) -> Compiled
-    requires { ⌜ start + 32 ≤ 122 ⌝ }
-    ensures { λ r. ⌜ compiledSaid r ≡ answered (charactersOf (now (joined .entry))) (registersOf (codeOf (drop start places) (now (joined .entry))) (maskOf (drop start places) (now (joined .entry)))) ⌝ }
+// The row with one more run drawn: its last character stands at position `low`.
+fn drawn(row: [u8; 32], low: usize, characters: &[u8]) -> [u8; 32]
+    requires { ⌜ low + length (now characters) ≤ 32 ⌝ }
+    ensures { λ r. ⌜ r ≡ paste row (32 - low - length (now (characters .entry))) (now (characters .entry)) (length (now (characters .entry))) ⌝ }
 {
-    let characters = &joined[..];
-    if !filter_characters::all_known(characters) {
-        return filter_registers::refused(Refusal::PatternByte(filter_characters::first_bad(
-            characters,
-        )));
+    let mut row = row;
+    let at = 32 - low - characters.len();
+    text::put_text(&mut row, at, characters);
+    row
+}
+
+fn wide(byte: u8) -> u64
+    ensures { λ r. ⌜ (r ≡ byte) × (r < 256) ⌝ }
+{
+    byte as u64
+}
+
+fn byte(row: &[u8; 32], at: usize) -> u64
+    requires { ⌜ at < 32 ⌝ }
+    ensures { λ r. ⌜ (r ≡ getD (now (row .entry)) at 0) × (r < 256) ⌝ }
+{
+    wide(row[at])
+}
+
+// Eight characters as the bytes of one word, the first on top.
+fn eight(row: &[u8; 32], at: usize) -> u64
+    requires { ⌜ (at + 8 ≤ 32) × (length (now row) ≡ 32) ⌝ }
+    ensures { λ r. ⌜ r ≡ wordOf (λ c. c) (56 ∷ 48 ∷ 40 ∷ 32 ∷ 24 ∷ 16 ∷ 8 ∷ 0 ∷ []) (drop at (now (row .entry))) ⌝ }
+{
+    (byte(row, at) * 0x100_0000_0000_0000)
+        | ((byte(row, at + 1) * 0x1_0000_0000_0000)
+            | ((byte(row, at + 2) * 0x100_0000_0000)
+                | ((byte(row, at + 3) * 0x1_0000_0000)
+                    | ((byte(row, at + 4) * 0x100_0000)
+                        | ((byte(row, at + 5) * 0x1_0000)
+                            | ((byte(row, at + 6) * 0x100) | byte(row, at + 7)))))))
+}
+
+// Of each byte that is a pattern character: bit 0, set in `1` alone, and at bit 4 its bit 6, set in `x` alone.
+fn marks(word: u64) -> u64
+    ensures { λ r. ⌜ (r ≡ bitOr (bitAnd word 0x0101_0101_0101_0101) (bitAnd (word / 4) 0x1010_1010_1010_1010)) × (r < 2 ^ 61) ⌝ }
+{
+    (word & 0x0101_0101_0101_0101) | ((word / 4) & 0x1010_1010_1010_1010)
+}
+
+// The bits of `moved` and those `by` places above them exchanged; the bits of `kept` are all others.
+fn exchanged(bits: u64, kept: u64, moved: u64, by: u32) -> u64
+    requires { ⌜ by < 64 ⌝ }
+    ensures { λ r. ⌜ r ≡ bitOr (bitAnd bits kept) (bitOr (bitAnd bits moved * 2 ^ by % 2 ^ 64) (bitAnd (bits / 2 ^ by) moved)) ⌝ }
+{
+    (bits & kept) | (((bits & moved) << by) | ((bits >> by) & moved))
+}
+
+// The code below 2^32, and above it a bit for each `x`. The marks of four words make a square of eight times eight bits, a row for the
+// places that stand alike in their words; turned about its diagonal, it has the code's four bytes and those of the `x`.
+fn read(row: [u8; 32]) -> u64
+    requires { ⌜ allCharacters row ≡ true ⌝ }
+    ensures { λ r. ⌜ (r % 2 ^ 32 ≡ codeOf (run 0 32) row) × (2 ^ 32 - 1 - r / 2 ^ 32 ≡ maskOf (run 0 32) row) ⌝ }
+{
+    let first = marks(eight(&row, 0)) * 8;
+    let second = marks(eight(&row, 8)) * 4;
+    let third = marks(eight(&row, 16)) * 2;
+    let square = first | (second | (third | marks(eight(&row, 24))));
+    let pairs = exchanged(square, 0xAA55_AA55_AA55_AA55, 0x00AA_00AA_00AA_00AA, 7);
+    let fours = exchanged(pairs, 0xCCCC_3333_CCCC_3333, 0x0000_CCCC_0000_CCCC, 14);
+    exchanged(fours, 0xF0F0_F0F0_0F0F_0F0F, 0x0000_0000_F0F0_F0F0, 28)
+}
+
+// The first place of a byte that is no pattern character, counted over the fields joined.
+fn first_bad(a: &[u8], b: &[u8], c: &[u8], d: &[u8], e: &[u8]) -> usize
+    requires { ⌜ length (now a) + length (now b) + length (now c) + length (now d) + length (now e) ≤ 32 ⌝ }
+    ensures { λ r. ⌜ r ≡ badAt (joined (now (a .entry) ∷ now (b .entry) ∷ now (c .entry) ∷ now (d .entry) ∷ now (e .entry) ∷ [])) ⌝ }
+{
+    let in_a = filter_characters::first_bad(a);
+    if in_a < a.len() {
+        return in_a;
     }
-    let words = fill(start, characters);
+    let in_b = filter_characters::first_bad(b);
+    if in_b < b.len() {
+        return a.len() + in_b;
+    }
+    let in_c = filter_characters::first_bad(c);
+    if in_c < c.len() {
+        return a.len() + b.len() + in_c;
+    }
+    let in_d = filter_characters::first_bad(d);
+    if in_d < d.len() {
+        return a.len() + b.len() + c.len() + in_d;
+    }
+    a.len() + b.len() + c.len() + d.len() + filter_characters::first_bad(e)
+}
+
+// The answer for fields that are drawn in a row.
+fn compile(row: [u8; 32], a: &[u8], b: &[u8], c: &[u8], d: &[u8], e: &[u8]) -> Compiled
+    requires { ⌜ (length (now a) + length (now b) + length (now c) + length (now d) + length (now e) ≤ 32)
+        × (allCharacters row ≡ allCharacters (joined (now a ∷ now b ∷ now c ∷ now d ∷ now e ∷ []))) ⌝ }
+    ensures { λ r. ⌜ compiledSaid r ≡ answered (charactersOf (joined (now (a .entry) ∷ now (b .entry) ∷ now (c .entry) ∷ now (d .entry) ∷ now (e .entry) ∷ [])))
+        (registersOf (codeOf (run 0 32) row) (maskOf (run 0 32) row)) ⌝ }
+{
+    if !filter_characters::all_known(&row) {
+        return filter_registers::refused(Refusal::PatternByte(first_bad(a, b, c, d, e)));
+    }
+    let both = read(row);
     filter_registers::made(
-        (words % 0x1_0000_0000) as u32,
-        (words / 0x1_0000_0000) as u32,
+        (both % 0x1_0000_0000) as u32,
+        0xFFFF_FFFF - (both / 0x1_0000_0000) as u32,
     )
 }
 
 pub fn single_standard(id: &[u8], rtr: &[u8], first: &[u8], second: &[u8]) -> Compiled
     ensures { λ r. ⌜ compiledSaid r ≡ compileOf singleStandard (now (id .entry) ∷ now (rtr .entry) ∷ now (first .entry) ∷ now (second .entry) ∷ []) ⌝ }
 {
-    let row = Row {
-        start: 0,
+    let widths = Widths {
         a: 11,
         b: 1,
         c: 8,
         d: 8,
         e: 0,
     };
-    match judge_lengths(row, id.len(), rtr.len(), first.len(), second.len(), 0) {
+    match judge_lengths(widths, id.len(), rtr.len(), first.len(), second.len(), 0) {
         Compiling::Refused(refusal) => filter_registers::refused(refusal),
         Compiling::Made => {
-            let characters = join(id, rtr, first, second, b"");
-            compile(row.start, &characters)
+            let identified = drawn(drawn([b'x'; 32], 21, id), 20, rtr);
+            let row = drawn(drawn(identified, 8, first), 0, second);
+            compile(row, id, rtr, first, second, b"")
         }
     }
 }
@@ -277,19 +180,18 @@ pub fn single_standard(id: &[u8], rtr: &[u8], first: &[u8], second: &[u8]) -> Co
 pub fn single_extended(id: &[u8], rtr: &[u8]) -> Compiled
     ensures { λ r. ⌜ compiledSaid r ≡ compileOf singleExtended (now (id .entry) ∷ now (rtr .entry) ∷ []) ⌝ }
 {
-    let row = Row {
-        start: 28,
+    let widths = Widths {
         a: 29,
         b: 1,
         c: 0,
         d: 0,
         e: 0,
     };
-    match judge_lengths(row, id.len(), rtr.len(), 0, 0, 0) {
+    match judge_lengths(widths, id.len(), rtr.len(), 0, 0, 0) {
         Compiling::Refused(refusal) => filter_registers::refused(refusal),
         Compiling::Made => {
-            let characters = join(id, rtr, b"", b"", b"");
-            compile(row.start, &characters)
+            let row = drawn(drawn([b'x'; 32], 3, id), 2, rtr);
+            compile(row, id, rtr, b"", b"", b"")
         }
     }
 }
@@ -303,8 +205,7 @@ pub fn dual_standard(
 ) -> Compiled
     ensures { λ r. ⌜ compiledSaid r ≡ compileOf dualStandard (now («first_id» .entry) ∷ now («first_rtr» .entry) ∷ now («first_payload» .entry) ∷ now («second_id» .entry) ∷ now («second_rtr» .entry) ∷ []) ⌝ }
 {
-    let row = Row {
-        start: 58,
+    let widths = Widths {
         a: 11,
         b: 1,
         c: 8,
@@ -312,7 +213,7 @@ pub fn dual_standard(
         e: 1,
     };
     match judge_lengths(
-        row,
+        widths,
         first_id.len(),
         first_rtr.len(),
         first_payload.len(),
@@ -321,8 +222,18 @@ pub fn dual_standard(
     ) {
         Compiling::Refused(refusal) => filter_registers::refused(refusal),
         Compiling::Made => {
-            let characters = join(first_id, first_rtr, first_payload, second_id, second_rtr);
-            compile(row.start, &characters)
+            let identified = drawn(drawn([b'x'; 32], 21, first_id), 20, first_rtr);
+            let first = drawn(identified, 16, &first_payload[..4]);
+            let second = drawn(drawn(first, 5, second_id), 4, second_rtr);
+            let row = drawn(second, 0, &first_payload[4..]);
+            compile(
+                row,
+                first_id,
+                first_rtr,
+                first_payload,
+                second_id,
+                second_rtr,
+            )
         }
     }
 }
@@ -330,19 +241,18 @@ pub fn dual_standard(
 pub fn dual_extended(first: &[u8], second: &[u8]) -> Compiled
     ensures { λ r. ⌜ compiledSaid r ≡ compileOf dualExtended (now (first .entry) ∷ now (second .entry) ∷ []) ⌝ }
 {
-    let row = Row {
-        start: 90,
+    let widths = Widths {
         a: 16,
         b: 16,
         c: 0,
         d: 0,
         e: 0,
     };
-    match judge_lengths(row, first.len(), second.len(), 0, 0, 0) {
+    match judge_lengths(widths, first.len(), second.len(), 0, 0, 0) {
         Compiling::Refused(refusal) => filter_registers::refused(refusal),
         Compiling::Made => {
-            let characters = join(first, second, b"", b"", b"");
-            compile(row.start, &characters)
+            let row = drawn(drawn([b'x'; 32], 16, first), 0, second);
+            compile(row, first, second, b"", b"", b"")
         }
     }
 }

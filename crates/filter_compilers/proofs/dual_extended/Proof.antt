@@ -1,12 +1,15 @@
--- `filter_compilers::dual_extended` meets its contract: its row of the table. Assumes nothing.
+-- `filter_compilers::dual_extended` meets its contract: the row that its fields are drawn in shows its patterns. Assumes nothing.
 use mathlib.Core.Path.{sym, ap, _∙_}
-use mathlib.Core.List.{[]}
+use mathlib.Core.List.{[], _∷_}
+use lib.ListN.{length}
 use native.Mathlib.Omega.{arith}
-use borrow.Author.Needs.{needs}
 use Rattle.filter_registers.specs.Answers.{compilingSaid}
-use Rattle.filter_compilers.specs.Table.{fieldsOf, places}
+use Rattle.filter_compilers.specs.Table.{dualExtended, fieldsOf}
 use Rattle.filter_compilers.specs.Answers.{compileOf}
-use Rattle.filter_compilers.proofs.Answers.{length-refused, fits, all-made}
+use Rattle.filter_compilers.proofs.Lengths.{lengths-five}
+use Rattle.filter_compilers.proofs.Fields.{dual-extended}
+use Rattle.filter_compilers.proofs.Answers.{length-refused, all-made}
+use borrow.Author.Needs.{needs}
 use Rattle.filter_compilers.proofs.dual_extended.Statement.{statement}
 use Rattle.filter_compilers.proofs.dual_extended.Tie as tie
 
@@ -22,32 +25,42 @@ refused-requires c κs = search needs
 enum-told : tie.Need-enum-told
 enum-told c = search needs
 
-slice-aggregate-join : tie.Need-slice-aggregate-join
-slice-aggregate-join c = search needs
+drawn-requires : tie.Need-drawn-requires
+drawn-requires c κs =
+    let args = c .before .before .before .before .before .args in
+    omega (arith, lengths-five 16 16 0 0 0 (length (args .first .now)) (length (args .second .now)) 0 0 0 (sym (c .before .before .judge-lengths .ensures) ∙ ap compilingSaid (c .enum-told .given .1)))
 
-slice-aggregate-join-2 : tie.Need-slice-aggregate-join-2
-slice-aggregate-join-2 c = search needs
+drawn-requires-2 : tie.Need-drawn-requires-2
+drawn-requires-2 c κs =
+    let args = c .before .before .before .before .before .before .args in
+    omega (arith, lengths-five 16 16 0 0 0 (length (args .first .now)) (length (args .second .now)) 0 0 0 (sym (c .before .before .before .judge-lengths .ensures) ∙ ap compilingSaid (c .before .enum-told .given .1)))
 
-slice-aggregate-join-3 : tie.Need-slice-aggregate-join-3
-slice-aggregate-join-3 c = search needs
+slice-aggregate-compile : tie.Need-slice-aggregate-compile
+slice-aggregate-compile c = search needs
 
-join-requires : tie.Need-join-requires
-join-requires c κs =
-    let made = sym (c .before .before .before .before .before .judge-lengths .ensures) ∙ ap compilingSaid (c .before .before .before .enum-told .given .1) in
-    omega (arith, fits 90 16 16 0 0 0 (c .before .before .before .before .before .before .before .before .args .first .now) (c .before .before .before .before .before .before .before .before .args .second .now) [] [] [] (omega arith) made)
+slice-aggregate-compile-2 : tie.Need-slice-aggregate-compile-2
+slice-aggregate-compile-2 c = search needs
+
+slice-aggregate-compile-3 : tie.Need-slice-aggregate-compile-3
+slice-aggregate-compile-3 c = search needs
 
 compile-requires : tie.Need-compile-requires
-compile-requires c κs = search needs
+compile-requires c κs =
+    let args = c .before .before .before .before .before .before .before .before .before .before .args in
+    let made = sym (c .before .before .before .before .before .before .before .judge-lengths .ensures) ∙ ap compilingSaid (c .before .before .before .before .before .enum-told .given .1) in
+    (omega (arith, lengths-five 16 16 0 0 0 (length (args .first .now)) (length (args .second .now)) 0 0 0 made), (dual-extended (args .first .now) (args .second .now) _ _ made (c .before .before .before .before .drawn .ensures) (c .before .before .before .drawn2 .ensures)) .good)
 
 returns : tie.Need-returns
-unfolding compileOf fieldsOf places
-returns c = c .refused .ensures ∙ length-refused 90 16 16 0 0 0 (c .before .before .before .before .before .before .before .args .first .now) (c .before .before .before .before .before .before .before .args .second .now) [] [] [] _ _ _ (sym (c .before .before .before .before .judge-lengths .ensures) ∙ ap compilingSaid (c .before .before .refusal .given .1))
+unfolding compileOf fieldsOf
+returns c =
+    let args = c .before .before .before .before .before .before .before .args in
+    c .refused .ensures ∙ length-refused 16 16 0 0 0 (args .first .now) (args .second .now) [] [] [] _ _ _ (sym (c .before .before .before .before .judge-lengths .ensures) ∙ ap compilingSaid (c .before .before .refusal .given .1))
 
 returns-2 : tie.Need-returns-2
-unfolding compileOf fieldsOf places
 returns-2 c =
+    let args = c .before .before .before .before .before .before .before .before .before .before .before .args in
     let made = sym (c .before .before .before .before .before .before .before .before .judge-lengths .ensures) ∙ ap compilingSaid (c .before .before .before .before .before .before .enum-told .given .1) in
-    c .compile .ensures ∙ all-made 90 16 16 0 0 0 (c .before .before .before .before .before .before .before .before .before .before .before .args .first .now) (c .before .before .before .before .before .before .before .before .before .before .before .args .second .now) [] [] [] (omega arith) made _ (c .before .before .join .ensures)
+    c .compile .ensures ∙ all-made dualExtended (args .first .now ∷ args .second .now ∷ []) _ (dual-extended (args .first .now) (args .second .now) _ _ made (c .before .before .before .before .before .drawn .ensures) (c .before .before .before .before .drawn2 .ensures))
 
 pub dual-extended-spec : {M : Type 1} → statement M
 dual-extended-spec =
@@ -57,10 +70,11 @@ dual-extended-spec =
     enum-known-refusal
     refused-requires
     enum-told
-    slice-aggregate-join
-    slice-aggregate-join-2
-    slice-aggregate-join-3
-    join-requires
+    drawn-requires
+    drawn-requires-2
+    slice-aggregate-compile
+    slice-aggregate-compile-2
+    slice-aggregate-compile-3
     compile-requires
     returns
     returns-2)

@@ -1,12 +1,15 @@
--- `filter_compilers::single_standard` meets its contract: its row of the table. Assumes nothing.
+-- `filter_compilers::single_standard` meets its contract: the row that its fields are drawn in shows its patterns. Assumes nothing.
 use mathlib.Core.Path.{sym, ap, _∙_}
-use mathlib.Core.List.{[]}
+use mathlib.Core.List.{[], _∷_}
+use lib.ListN.{length}
 use native.Mathlib.Omega.{arith}
-use borrow.Author.Needs.{needs}
 use Rattle.filter_registers.specs.Answers.{compilingSaid}
-use Rattle.filter_compilers.specs.Table.{fieldsOf, places}
+use Rattle.filter_compilers.specs.Table.{singleStandard, fieldsOf}
 use Rattle.filter_compilers.specs.Answers.{compileOf}
-use Rattle.filter_compilers.proofs.Answers.{length-refused, fits, all-made}
+use Rattle.filter_compilers.proofs.Lengths.{lengths-five}
+use Rattle.filter_compilers.proofs.Fields.{single-standard}
+use Rattle.filter_compilers.proofs.Answers.{length-refused, all-made}
+use borrow.Author.Needs.{needs}
 use Rattle.filter_compilers.proofs.single_standard.Statement.{statement}
 use Rattle.filter_compilers.proofs.single_standard.Tie as tie
 
@@ -22,26 +25,46 @@ refused-requires c κs = search needs
 enum-told : tie.Need-enum-told
 enum-told c = search needs
 
-slice-aggregate-join : tie.Need-slice-aggregate-join
-slice-aggregate-join c = search needs
+drawn-requires : tie.Need-drawn-requires
+drawn-requires c κs =
+    let args = c .before .before .before .before .before .before .before .args in
+    omega (arith, lengths-five 11 1 8 8 0 (length (args .id .now)) (length (args .rtr .now)) (length (args .first .now)) (length (args .second .now)) 0 (sym (c .before .before .judge-lengths .ensures) ∙ ap compilingSaid (c .enum-told .given .1)))
 
-join-requires : tie.Need-join-requires
-join-requires c κs =
-    let made = sym (c .before .before .before .judge-lengths .ensures) ∙ ap compilingSaid (c .before .enum-told .given .1) in
-    omega (arith, fits 0 11 1 8 8 0 (c .before .before .before .before .before .before .before .before .args .id .now) (c .before .before .before .before .before .before .before .before .args .rtr .now) (c .before .before .before .before .before .before .before .before .args .first .now) (c .before .before .before .before .before .before .before .before .args .second .now) [] (omega arith) made)
+drawn-requires-2 : tie.Need-drawn-requires-2
+drawn-requires-2 c κs =
+    let args = c .before .before .before .before .before .before .before .before .args in
+    omega (arith, lengths-five 11 1 8 8 0 (length (args .id .now)) (length (args .rtr .now)) (length (args .first .now)) (length (args .second .now)) 0 (sym (c .before .before .before .judge-lengths .ensures) ∙ ap compilingSaid (c .before .enum-told .given .1)))
+
+drawn-requires-3 : tie.Need-drawn-requires-3
+drawn-requires-3 c κs =
+    let args = c .before .before .before .before .before .before .before .before .before .args in
+    omega (arith, lengths-five 11 1 8 8 0 (length (args .id .now)) (length (args .rtr .now)) (length (args .first .now)) (length (args .second .now)) 0 (sym (c .before .before .before .before .judge-lengths .ensures) ∙ ap compilingSaid (c .before .before .enum-told .given .1)))
+
+drawn-requires-4 : tie.Need-drawn-requires-4
+drawn-requires-4 c κs =
+    let args = c .before .before .before .before .before .before .before .before .before .before .args in
+    omega (arith, lengths-five 11 1 8 8 0 (length (args .id .now)) (length (args .rtr .now)) (length (args .first .now)) (length (args .second .now)) 0 (sym (c .before .before .before .before .before .judge-lengths .ensures) ∙ ap compilingSaid (c .before .before .before .enum-told .given .1)))
+
+slice-aggregate-compile : tie.Need-slice-aggregate-compile
+slice-aggregate-compile c = search needs
 
 compile-requires : tie.Need-compile-requires
-compile-requires c κs = search needs
+compile-requires c κs =
+    let args = c .before .before .before .before .before .before .before .before .before .before .before .before .args in
+    let made = sym (c .before .before .before .before .before .before .before .judge-lengths .ensures) ∙ ap compilingSaid (c .before .before .before .before .before .enum-told .given .1) in
+    (omega (arith, lengths-five 11 1 8 8 0 (length (args .id .now)) (length (args .rtr .now)) (length (args .first .now)) (length (args .second .now)) 0 made), (single-standard (args .id .now) (args .rtr .now) (args .first .now) (args .second .now) _ _ _ _ made (c .before .before .before .before .drawn .ensures) (c .before .before .before .drawn2 .ensures) (c .before .before .drawn3 .ensures) (c .before .drawn4 .ensures)) .good)
 
 returns : tie.Need-returns
-unfolding compileOf fieldsOf places
-returns c = c .refused .ensures ∙ length-refused 0 11 1 8 8 0 (c .before .before .before .before .before .before .before .before .before .args .id .now) (c .before .before .before .before .before .before .before .before .before .args .rtr .now) (c .before .before .before .before .before .before .before .before .before .args .first .now) (c .before .before .before .before .before .before .before .before .before .args .second .now) [] _ _ _ (sym (c .before .before .before .before .judge-lengths .ensures) ∙ ap compilingSaid (c .before .before .refusal .given .1))
+unfolding compileOf fieldsOf
+returns c =
+    let args = c .before .before .before .before .before .before .before .before .before .args in
+    c .refused .ensures ∙ length-refused 11 1 8 8 0 (args .id .now) (args .rtr .now) (args .first .now) (args .second .now) [] _ _ _ (sym (c .before .before .before .before .judge-lengths .ensures) ∙ ap compilingSaid (c .before .before .refusal .given .1))
 
 returns-2 : tie.Need-returns-2
-unfolding compileOf fieldsOf places
 returns-2 c =
-    let made = sym (c .before .before .before .before .before .before .judge-lengths .ensures) ∙ ap compilingSaid (c .before .before .before .before .enum-told .given .1) in
-    c .compile .ensures ∙ all-made 0 11 1 8 8 0 (c .before .before .before .before .before .before .before .before .before .before .before .args .id .now) (c .before .before .before .before .before .before .before .before .before .before .before .args .rtr .now) (c .before .before .before .before .before .before .before .before .before .before .before .args .first .now) (c .before .before .before .before .before .before .before .before .before .before .before .args .second .now) [] (omega arith) made _ (c .before .before .join .ensures)
+    let args = c .before .before .before .before .before .before .before .before .before .before .before .before .before .args in
+    let made = sym (c .before .before .before .before .before .before .before .before .judge-lengths .ensures) ∙ ap compilingSaid (c .before .before .before .before .before .before .enum-told .given .1) in
+    c .compile .ensures ∙ all-made singleStandard (args .id .now ∷ args .rtr .now ∷ args .first .now ∷ args .second .now ∷ []) _ (single-standard (args .id .now) (args .rtr .now) (args .first .now) (args .second .now) _ _ _ _ made (c .before .before .before .before .before .drawn .ensures) (c .before .before .before .before .drawn2 .ensures) (c .before .before .before .drawn3 .ensures) (c .before .before .drawn4 .ensures))
 
 pub single-standard-spec : {M : Type 1} → statement M
 single-standard-spec =
@@ -51,8 +74,11 @@ single-standard-spec =
     enum-known-refusal
     refused-requires
     enum-told
-    slice-aggregate-join
-    join-requires
+    drawn-requires
+    drawn-requires-2
+    drawn-requires-3
+    drawn-requires-4
+    slice-aggregate-compile
     compile-requires
     returns
     returns-2)
