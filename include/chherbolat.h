@@ -26,7 +26,7 @@ typedef struct {
 #define CHHERBOLAT_REFUSAL_INVALID_DATA_LENGTH 2    /* the length modulo 256 */
 #define CHHERBOLAT_REFUSAL_NON_COMPLIANT_DLC 3      /* the code modulo 256 */
 #define CHHERBOLAT_REFUSAL_PATTERN_LENGTH 4         /* the first such pattern, from 0 */
-#define CHHERBOLAT_REFUSAL_PATTERN_BYTE 5           /* the first such byte, from 0 in the patterns joined */
+#define CHHERBOLAT_REFUSAL_PATTERN_BYTE 5           /* its pattern, place and byte, as below */
 #define CHHERBOLAT_REFUSAL_OUTPUT_TOO_SHORT 6       /* the length that is needed */
 #define CHHERBOLAT_REFUSAL_FILTER_KIND 7            /* its offset in a file, its entry, or 0 */
 #define CHHERBOLAT_REFUSAL_DRAIN_RUNS 8             /* 0 */
@@ -37,6 +37,12 @@ typedef struct {
 #define CHHERBOLAT_REFUSAL_BYTES_AFTER_END 13       /* the offset of the first */
 #define CHHERBOLAT_REFUSAL_WRONG_LENGTH 14          /* the argument from 0, a slice being one; or the section */
 #define CHHERBOLAT_REFUSAL_EMPTY_LIST 15            /* 0 */
+
+/* What the value of refusal 5 holds: the pattern, from 0 in the order of the arguments, the place inside it, from 0, and
+   the byte found there. */
+#define CHHERBOLAT_PATTERN_BYTE_FIELD(value) ((value) >> 16 & 0xFF)
+#define CHHERBOLAT_PATTERN_BYTE_PLACE(value) ((value) >> 8 & 0xFF)
+#define CHHERBOLAT_PATTERN_BYTE_FOUND(value) ((value) & 0xFF)
 
 /* Lengths in bytes. */
 #define CHHERBOLAT_FRAME_LENGTH 13

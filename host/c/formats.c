@@ -112,7 +112,10 @@ static bool refused(chherbolat_answer got, bool of_list)
 {
     if (got.number == 0) return false;
     printf("refusal %" PRIu32, got.number);
-    if (carries(got.number, of_list)) printf(" carrying %" PRIu64, got.value);
+    if (got.number == CHHERBOLAT_REFUSAL_PATTERN_BYTE)
+        printf(" carrying field %u, place %u, byte %02X", (unsigned)CHHERBOLAT_PATTERN_BYTE_FIELD(got.value),
+               (unsigned)CHHERBOLAT_PATTERN_BYTE_PLACE(got.value), (unsigned)CHHERBOLAT_PATTERN_BYTE_FOUND(got.value));
+    else if (carries(got.number, of_list)) printf(" carrying %" PRIu64, got.value);
     return true;
 }
 

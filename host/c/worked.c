@@ -87,7 +87,11 @@ static void filters_by_patterns(void)
     gives("P10, pattern", single_standard("xxxxxxxxxx1", "xxxxxxxx"), REGISTERS);
     wrote("P10, pattern", bytes("00 20 00 00 FF DF FF FF"));
     refuses("seven characters", single_standard("xxxxxxxxxx0", "xxxxxxx"), PATTERN_LENGTH, 2);
-    refuses("an upper-case X", single_standard("xxxxxxxxxx0", "xxxXxxxx"), PATTERN_BYTE, 15);
+    chherbolat_answer upper = single_standard("xxxxxxxxxx0", "xxxXxxxx");
+    refuses("an upper-case X", upper, PATTERN_BYTE, 2 * 65536 + 3 * 256 + 'X');
+    gives("its field", ((chherbolat_answer){0, CHHERBOLAT_PATTERN_BYTE_FIELD(upper.value)}), 2);
+    gives("its place", ((chherbolat_answer){0, CHHERBOLAT_PATTERN_BYTE_PLACE(upper.value)}), 3);
+    gives("its byte", ((chherbolat_answer){0, CHHERBOLAT_PATTERN_BYTE_FOUND(upper.value)}), 'X');
     wrote_nothing("an upper-case X");
     gives("P8", dual_extended(REGISTERS), REGISTERS);
     wrote("P8", bytes("00 00 00 78 FF 87 FF 87"));
@@ -96,6 +100,10 @@ static void filters_by_patterns(void)
     gives("P9", chherbolat_dual_standard_filter_new(any, 11, any, 1, "10100101", 8, any, 11, any, 1, lent(), REGISTERS),
           REGISTERS);
     wrote("P9", bytes("00 0A 00 05 FF F0 FF F0"));
+    refuses("| compile a dual standard filter with `2` there |",
+            chherbolat_dual_standard_filter_new(any, 11, any, 1, any, 8, "xx2xxxxxxxx", 11, any, 1, lent(), REGISTERS),
+            PATTERN_BYTE, 3 * 65536 + 2 * 256 + 0x32);
+    wrote_nothing("a wrong byte");
     gives("single extended", chherbolat_single_extended_filter_new(id, 29, "1", 1, lent(), REGISTERS), REGISTERS);
     wrote("single extended", bytes("80 00 00 04 7F FF FF F3"));
 }

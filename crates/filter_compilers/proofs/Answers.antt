@@ -6,7 +6,7 @@ use lib.ListN.{length, replicate}
 use native.Mathlib.Omega.{arith}
 use Rattle.laws.specs.Said.{Said, refuses, gives}
 use Rattle.filter_registers.specs.Registers.{registersOf}
-use Rattle.filter_compilers.specs.Table.{Filter, run, fieldsOf, joined, lengths}
+use Rattle.filter_compilers.specs.Table.{Filter, run, fieldsOf, lengths}
 use Rattle.filter_compilers.specs.Words.{one, care, codeOf, maskOf}
 use Rattle.filter_compilers.specs.Answers.{lengthsOf, charactersOf, answered, compileBy, compileOf}
 use Rattle.filter_compilers.proofs.Characters.{one-not, care-not}
@@ -28,10 +28,10 @@ module _ (a b c d e : ℕ) (p q r s t : List ℕ) where
 
 -- ---- a row that shows the patterns
 pub all-made : (filter : Filter) (patterns : List (List ℕ)) (row : List ℕ) → Shows filter patterns row
-    → answered (charactersOf (joined patterns)) (registersOf (codeOf (run 0 32) row) (maskOf (run 0 32) row)) ≡ compileOf filter patterns
+    → answered (charactersOf 0 patterns) (registersOf (codeOf (run 0 32) row) (maskOf (run 0 32) row)) ≡ compileOf filter patterns
 unfolding compileOf
 all-made filter patterns row S =
     ap₂ answered
-    (sym (ap (λ (ls : List ℕ). lengthsOf 0 (lengths (fieldsOf filter)) ls (charactersOf (joined patterns))) (S .widths)
-    ∙ lengths-same 0 (lengths (fieldsOf filter)) (charactersOf (joined patterns))))
+    (sym (ap (λ (ls : List ℕ). lengthsOf 0 (lengths (fieldsOf filter)) ls (charactersOf 0 patterns)) (S .widths)
+    ∙ lengths-same 0 (lengths (fieldsOf filter)) (charactersOf 0 patterns)))
     (ap₂ registersOf (S .words one (one-not 120 (λ z. omega arith))) (S .words care (care-not 120 refl)))

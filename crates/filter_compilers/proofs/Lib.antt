@@ -1,10 +1,10 @@
 pub mod Table
 pub mod Characters
 pub mod Words
-pub mod Joined
 pub mod Lengths
 pub mod Turned
 pub mod Drawing
+pub mod Joined
 pub mod Fields
 pub mod Answers
 pub mod Agree

@@ -1,16 +1,13 @@
 -- What an accepted pattern set makes: the fields joined are pattern characters, as many as the row has places, and the registers accept exactly
 -- the words that match them. For every filter. Assumes nothing.
-use Prim.Native.Nat.{ℕ, suc, _+_, _^_, _≤_, _<_}
+use Prim.Native.Nat.{ℕ, _+_, _^_, _<_}
 use mathlib.Core.Path.{_≡_, refl, sym, ap, _∙_}
 use mathlib.Core.Logic.{_↔_}
-use mathlib.Core.Bool.{Bool, true, false, cond, _&&_}
 use mathlib.Core.List.{List, [], _∷_}
-use lib.Dec.{T, ltb}
+use lib.Dec.{T}
 use lib.ListN.{length, length-append}
-use native.Mathlib.Omega.{arith}
-use borrow.Author.Tests.{ltb-false}
-use Rattle.laws.specs.Said.{Said, refuses, gives}
-use Rattle.filter_characters.specs.Characters.{isCharacter, allCharacters, badAt}
+use Rattle.laws.specs.Said.{gives}
+use Rattle.filter_characters.specs.Characters.{allCharacters}
 use Rattle.filter_registers.specs.Registers.{registersOf}
 use Rattle.filter_registers.specs.Meaning.{Accepts}
 use Rattle.filter_registers.proofs.Registers.{accepts-is}
@@ -21,38 +18,18 @@ use Rattle.filter_compilers.specs.Meaning.{Matches}
 use Rattle.filter_compilers.proofs.Table.{row-distinct, row-within}
 use Rattle.filter_compilers.proofs.Characters.{one-lt, care-lt}
 use Rattle.filter_compilers.proofs.Lengths.{lengths-given}
+use Rattle.filter_compilers.proofs.Joined.{total, said-good}
 use Rattle.filter_compilers.proofs.Agree.{word-lt, law}
 
 -- the lists' lengths tell that of the lists joined
-total : List ℕ → ℕ
-total [] = 0
-total (n ∷ ns) = n + total ns
-
 joined-length : (ss : List (List ℕ)) → length (joined ss) ≡ total (lengths ss)
-unfolding total
 joined-length [] = refl
 joined-length (s ∷ ss) = length-append s (joined ss) ∙ ap (λ (n : ℕ). length s + n) (joined-length ss)
 
-all-good : (cs : List ℕ) → length cs ≤ badAt cs → T (allCharacters cs)
-unfolding badAt
-all-good [] h = tt
-all-good (c ∷ cs) h = cases (isCharacter c) h (all-good cs)
-  where
-    cases : (b : Bool) → suc (length cs) ≤ cond b (suc (badAt cs)) 0 → (length cs ≤ badAt cs → T (allCharacters cs)) → T (b && allCharacters cs)
-    cases true g r = r (omega arith)
-    cases false g r = absurd (omega arith)
-
-none-bad : (cs : List ℕ) → charactersOf cs ≡ gives 8 → length cs ≤ badAt cs
-none-bad cs e = cases (ltb (badAt cs) (length cs)) refl e
-  where
-    cases : (b : Bool) → ltb (badAt cs) (length cs) ≡ b → cond {A = Said ℕ} b (refuses 5 (badAt cs ∷ [])) (gives 8) ≡ gives 8 → length cs ≤ badAt cs
-    cases true q p = absurd (let z : _≡_ {A = ℕ} 0 1 = cc in omega arith)
-    cases false q p = ltb-false (badAt cs) (length cs) q
-
 module _ (filter : Filter) (patterns : List (List ℕ)) (made : compileOf filter patterns .0 ≡ gives 8) where
-  given : (lengths patterns ≡ lengths (fieldsOf filter)) × (charactersOf (joined patterns) ≡ gives 8)
+  given : (lengths patterns ≡ lengths (fieldsOf filter)) × (charactersOf 0 patterns ≡ gives 8)
   unfolding compileOf
-  given = lengths-given 0 (lengths (fieldsOf filter)) (lengths patterns) (charactersOf (joined patterns)) made
+  given = lengths-given 0 (lengths (fieldsOf filter)) (lengths patterns) (charactersOf 0 patterns) made
 
   pub widths : lengths patterns ≡ lengths (fieldsOf filter)
   widths = given .0
@@ -61,7 +38,7 @@ module _ (filter : Filter) (patterns : List (List ℕ)) (made : compileOf filter
   whole = joined-length patterns ∙ ap total widths ∙ sym (joined-length (fieldsOf filter))
 
   pub good : T (allCharacters (joined patterns))
-  good = all-good (joined patterns) (none-bad (joined patterns) (given .1))
+  good = rw (said-good 0 patterns (given .1)) tt
 
   pub code-small : codeOf (rowOf filter) (joined patterns) < 2 ^ 32
   code-small = word-lt one one-lt (rowOf filter) (joined patterns) (row-within filter)

@@ -1,10 +1,10 @@
 -- What the compilers by patterns answer: the refusal that is due, else the registers.
--- Source: the outline, refusals 4 and 5: all lengths in argument order, then characters.
+-- Source: the outline, refusals 4 and 5: all lengths in argument order, then characters; request #106 for what 5 carries.
 use Prim.Native.Nat.{ℕ, suc}
 use mathlib.Core.Bool.{cond}
 use mathlib.Core.List.{List, [], _∷_}
 use lib.Dec.{eqb, ltb}
-use lib.ListN.{length, replicate}
+use lib.ListN.{length, getD, replicate}
 use Rattle.laws.specs.Said.{Said, refuses, gives, accepted}
 use Rattle.filter_characters.specs.Characters.{badAt}
 use Rattle.filter_registers.specs.Registers.{registersOf}
@@ -18,8 +18,11 @@ lengthsOf field [] (l ∷ ls) rest = refuses 4 (field ∷ [])
 lengthsOf field (n ∷ ns) [] rest = refuses 4 (field ∷ [])
 lengthsOf field (n ∷ ns) (l ∷ ls) rest = cond (eqb l n) (lengthsOf (suc field) ns ls rest) (refuses 4 (field ∷ []))
 
-abbrev pub charactersOf : List ℕ → Said ℕ
-charactersOf cs = cond (ltb (badAt cs) (length cs)) (refuses 5 (badAt cs ∷ [])) (gives 8)
+-- by the patterns, counted from a field on: the first byte that is no pattern character, with its field, its place there and what it is
+abbrev pub charactersOf : ℕ → List (List ℕ) → Said ℕ
+charactersOf field [] = gives 8
+charactersOf field (p ∷ patterns) =
+    cond (ltb (badAt p) (length p)) (refuses 5 (field ∷ badAt p ∷ getD p (badAt p) 0 ∷ [])) (charactersOf (suc field) patterns)
 
 -- the answer, and the eight registers beside it: zeros after a refusal
 abbrev pub answered : Said ℕ → List ℕ → Said ℕ × List ℕ
@@ -28,7 +31,7 @@ answered said registers = (said, cond (accepted said) registers (replicate 8 0))
 -- by the fields' widths, the row's positions and the patterns
 abbrev pub compileBy : List ℕ → List ℕ → List (List ℕ) → Said ℕ × List ℕ
 compileBy widths row patterns =
-    answered (lengthsOf 0 widths (lengths patterns) (charactersOf (joined patterns)))
+    answered (lengthsOf 0 widths (lengths patterns) (charactersOf 0 patterns))
     (registersOf (codeOf row (joined patterns)) (maskOf row (joined patterns)))
 
 unfoldable pub compileOf : Filter → List (List ℕ) → Said ℕ × List ℕ

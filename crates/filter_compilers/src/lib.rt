@@ -1,14 +1,15 @@
 // Filter patterns: the acceptance registers that the patterns of a filter's fields ask for. A filter's fields are drawn into a row of 32
 // characters as the manual draws the registers, bit 31 first; `x` stands where no field does.
 ghost use mathlib.Core.Path.{_≡_};
-ghost use mathlib.Core.Bool.{true};
+ghost use mathlib.Core.Bool.{true, false};
 ghost use mathlib.Core.List.{_∷_, []};
 ghost use Prim.Native.Nat.{_+_, _-_, _*_, _/_, _%_, _^_, _<_, _≤_};
 ghost use lib.Bits.{bitAnd, bitOr};
 ghost use lib.ListN.{length, drop, getD};
 ghost use lib.Seq.{paste};
 ghost use Rattle.laws.specs.Said.{gives};
-ghost use Rattle.filter_characters.specs.Characters.{allCharacters, badAt};
+ghost use Rattle.refusals.specs.Table.{refusalSaid};
+ghost use Rattle.filter_characters.specs.Characters.{allCharacters};
 ghost use Rattle.filter_registers.specs.Registers.{registersOf};
 ghost use Rattle.filter_registers.specs.Answers.{compilingSaid, compiledSaid};
 ghost use Rattle.filter_compilers.specs.Table.{singleStandard, singleExtended, dualStandard, dualExtended, run, joined};
@@ -116,39 +117,49 @@ fn read(row: [u8; 32]) -> u64
     exchanged(fours, 0xF0F0_F0F0_0F0F_0F0F, 0x0000_0000_F0F0_F0F0, 28)
 }
 
-// The first place of a byte that is no pattern character, counted over the fields joined.
-fn first_bad(a: &[u8], b: &[u8], c: &[u8], d: &[u8], e: &[u8]) -> usize
-    requires { ⌜ length (now a) + length (now b) + length (now c) + length (now d) + length (now e) ≤ 32 ⌝ }
-    ensures { λ r. ⌜ r ≡ badAt (joined (now (a .entry) ∷ now (b .entry) ∷ now (c .entry) ∷ now (d .entry) ∷ now (e .entry) ∷ [])) ⌝ }
+// A byte that is no pattern character, by its field and its place there.
+fn wrong_byte(field: u8, pattern: &[u8], place: usize) -> Refusal
+    requires { ⌜ (place < length (now pattern)) × (length (now pattern) ≤ 32) ⌝ }
+    ensures { λ r. ⌜ r ≡ Refusal.PatternByte field place (getD (now (pattern .entry)) place 0) ⌝ }
+{
+    Refusal::PatternByte(field, place as u8, pattern[place])
+}
+
+// The first byte that is no pattern character, where there is one.
+fn first_wrong(a: &[u8], b: &[u8], c: &[u8], d: &[u8], e: &[u8]) -> Refusal
+    requires { ⌜ (length (now a) + length (now b) + length (now c) + length (now d) + length (now e) ≤ 32)
+        × (allCharacters (joined (now a ∷ now b ∷ now c ∷ now d ∷ now e ∷ [])) ≡ false) ⌝ }
+    ensures { λ r. ⌜ refusalSaid r ≡ charactersOf 0 (now (a .entry) ∷ now (b .entry) ∷ now (c .entry) ∷ now (d .entry) ∷ now (e .entry) ∷ []) ⌝ }
 {
     let in_a = filter_characters::first_bad(a);
     if in_a < a.len() {
-        return in_a;
+        return wrong_byte(0, a, in_a);
     }
     let in_b = filter_characters::first_bad(b);
     if in_b < b.len() {
-        return a.len() + in_b;
+        return wrong_byte(1, b, in_b);
     }
     let in_c = filter_characters::first_bad(c);
     if in_c < c.len() {
-        return a.len() + b.len() + in_c;
+        return wrong_byte(2, c, in_c);
     }
     let in_d = filter_characters::first_bad(d);
     if in_d < d.len() {
-        return a.len() + b.len() + c.len() + in_d;
+        return wrong_byte(3, d, in_d);
     }
-    a.len() + b.len() + c.len() + d.len() + filter_characters::first_bad(e)
+    let in_e = filter_characters::first_bad(e);
+    wrong_byte(4, e, in_e)
 }
 
 // The answer for fields that are drawn in a row.
 fn compile(row: [u8; 32], a: &[u8], b: &[u8], c: &[u8], d: &[u8], e: &[u8]) -> Compiled
     requires { ⌜ (length (now a) + length (now b) + length (now c) + length (now d) + length (now e) ≤ 32)
         × (allCharacters row ≡ allCharacters (joined (now a ∷ now b ∷ now c ∷ now d ∷ now e ∷ []))) ⌝ }
-    ensures { λ r. ⌜ compiledSaid r ≡ answered (charactersOf (joined (now (a .entry) ∷ now (b .entry) ∷ now (c .entry) ∷ now (d .entry) ∷ now (e .entry) ∷ [])))
+    ensures { λ r. ⌜ compiledSaid r ≡ answered (charactersOf 0 (now (a .entry) ∷ now (b .entry) ∷ now (c .entry) ∷ now (d .entry) ∷ now (e .entry) ∷ []))
         (registersOf (codeOf (run 0 32) row) (maskOf (run 0 32) row)) ⌝ }
 {
     if !filter_characters::all_known(&row) {
-        return filter_registers::refused(Refusal::PatternByte(first_bad(a, b, c, d, e)));
+        return filter_registers::refused(first_wrong(a, b, c, d, e));
     }
     let both = read(row);
     filter_registers::made(

@@ -77,9 +77,9 @@ module _ (filter : Filter) (registers : List ℕ) where
   pub read-compiles : compileOf filter read .0 ≡ gives 8
   unfolding compileOf
   read-compiles =
-      ap (λ (ls : List ℕ). lengthsOf 0 (lengths (fieldsOf filter)) ls (charactersOf (joined read))) (each-long (characterIn registers) (fieldsOf filter))
-      ∙ lengths-right 0 (lengths (fieldsOf filter)) (charactersOf (joined read))
-      ∙ good-said (joined read) (ap allCharacters read-joined ∙ characters-good registers (rowOf filter))
+      ap (λ (ls : List ℕ). lengthsOf 0 (lengths (fieldsOf filter)) ls (charactersOf 0 read)) (each-long (characterIn registers) (fieldsOf filter))
+      ∙ lengths-right 0 (lengths (fieldsOf filter)) (charactersOf 0 read)
+      ∙ good-said 0 read (ap allCharacters read-joined ∙ characters-good registers (rowOf filter))
 
   long : length (joined read) ≡ length (rowOf filter)
   long = ap length read-joined ∙ length-map (rowOf filter) (characterIn registers)

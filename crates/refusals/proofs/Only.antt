@@ -13,7 +13,7 @@ use Rattle.refusals.specs.declared.Refusal.the-variants.{IdentifierAbove
 abbrev none : Refusal
 none = EmptyList
 
--- the refusal of a number that carries nothing, and of one that carries a number
+-- the refusal of a number that carries nothing, and of one that carries numbers
 pub refusalAt : ℕ → List ℕ → Refusal
 refusalAt k [] =
     getD
@@ -22,7 +22,7 @@ refusalAt k [] =
     none
 refusalAt k (n ∷ more) =
     getD
-    (EntryAboveLimit n ∷ InvalidDataLength n ∷ NonCompliantDlc n ∷ PatternLength n ∷ PatternByte n ∷ OutputTooShort n ∷ FilterKind n
+    (EntryAboveLimit n ∷ InvalidDataLength n ∷ NonCompliantDlc n ∷ PatternLength n ∷ PatternByte n (getD more 0 0) (getD more 1 0) ∷ OutputTooShort n ∷ FilterKind n
     ∷ none ∷ none ∷ none ∷ FileEnds n ∷ CountAboveLimit n ∷ BytesAfterEnd n ∷ WrongLength n ∷ [])
     (k - 1)
     none
@@ -33,7 +33,7 @@ refusal-at IdentifierAboveLimit = refl
 refusal-at (InvalidDataLength n) = refl
 refusal-at (NonCompliantDlc n) = refl
 refusal-at (PatternLength n) = refl
-refusal-at (PatternByte n) = refl
+refusal-at (PatternByte n m b) = refl
 refusal-at (OutputTooShort n) = refl
 refusal-at (FilterKind n) = refl
 refusal-at DrainRuns = refl

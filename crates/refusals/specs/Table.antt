@@ -1,5 +1,5 @@
 -- The refusals in the outline's numbers, and the numbers that each carries.
--- Source: the outline, "Refusals by number"; request #102 for 15, and for the index that 1 carries.
+-- Source: the outline, "Refusals by number"; request #102 for 15, and for the index that 1 carries; request #106 for the three numbers of 5.
 use Prim.Native.Nat.{ℕ, _+_, _*_}
 use mathlib.Core.List.{List, [], _∷_}
 use Rattle.laws.specs.Said.{Said, refuses}
@@ -11,7 +11,7 @@ numberOf IdentifierAboveLimit = 1
 numberOf (InvalidDataLength length) = 2
 numberOf (NonCompliantDlc code) = 3
 numberOf (PatternLength field) = 4
-numberOf (PatternByte place) = 5
+numberOf (PatternByte field place byte) = 5
 numberOf (OutputTooShort needed) = 6
 numberOf (FilterKind at) = 7
 numberOf DrainRuns = 8
@@ -29,7 +29,7 @@ carriedOf IdentifierAboveLimit = []
 carriedOf (InvalidDataLength length) = length ∷ []
 carriedOf (NonCompliantDlc code) = code ∷ []
 carriedOf (PatternLength field) = field ∷ []
-carriedOf (PatternByte place) = place ∷ []
+carriedOf (PatternByte field place byte) = field ∷ place ∷ byte ∷ []
 carriedOf (OutputTooShort needed) = needed ∷ []
 carriedOf (FilterKind at) = at ∷ []
 carriedOf DrainRuns = []

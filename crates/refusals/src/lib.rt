@@ -11,8 +11,8 @@ pub enum Refusal {
     NonCompliantDlc(u8),
     // A pattern of another length than its field: the field, from 0.
     PatternLength(usize),
-    // A pattern byte other than `0`, `1` and `x`: its place, the fields joined.
-    PatternByte(usize),
+    // A pattern byte other than `0`, `1` and `x`: its field, its place there, both from 0, and the byte.
+    PatternByte(u8, u8, u8),
     // A lent output that is too short: the length that is needed.
     OutputTooShort(usize),
     // A filter kind that is neither single nor dual: its offset, its entry, or 0.
@@ -47,7 +47,7 @@ impl Refusal {
             Refusal::InvalidDataLength(_) => 2,
             Refusal::NonCompliantDlc(_) => 3,
             Refusal::PatternLength(_) => 4,
-            Refusal::PatternByte(_) => 5,
+            Refusal::PatternByte(_, _, _) => 5,
             Refusal::OutputTooShort(_) => 6,
             Refusal::FilterKind(_) => 7,
             Refusal::DrainRuns => 8,
@@ -71,7 +71,9 @@ impl Refusal {
             Refusal::InvalidDataLength(length) => length as u64,
             Refusal::NonCompliantDlc(code) => code as u64,
             Refusal::PatternLength(field) => field as u64,
-            Refusal::PatternByte(place) => place as u64,
+            Refusal::PatternByte(field, place, byte) => {
+                ((field as u64) * 256 + (place as u64)) * 256 + (byte as u64)
+            }
             Refusal::OutputTooShort(needed) => needed as u64,
             Refusal::FilterKind(at) => at as u64,
             Refusal::DrainRuns => 0,

@@ -18,7 +18,7 @@ pub use filter::{CodeMask, Filter, Kind, Listed};
 pub use frame::Frame;
 pub use identifier::{ExtendedId, Format, Id, StandardId};
 pub use receive_box::ReceiveBox;
-pub use refusal::{Refusal, Refused, Result};
+pub use refusal::{PatternByte, Refusal, Refused, Result};
 
 pub const FRAME_LENGTH: usize = 13;
 pub const REGISTERS_LENGTH: usize = 8;

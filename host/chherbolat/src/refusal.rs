@@ -57,6 +57,22 @@ pub struct Refused {
     pub carries: u64,
 }
 
+/// A byte of a pattern that is none of its characters: which pattern, from 0, where in it, from 0, and what.
+#[derive(Debug, Clone, Copy, PartialEq, Eq)]
+pub struct PatternByte {
+    pub field: u8,
+    pub place: u8,
+    pub found: u8,
+}
+
+impl Refused {
+    /// What `PatternByte` carries.
+    pub fn pattern_byte(self) -> Option<PatternByte> {
+        let [.., field, place, found] = self.carries.to_be_bytes();
+        (self.refusal == Refusal::PatternByte).then_some(PatternByte { field, place, found })
+    }
+}
+
 pub type Result<T> = core::result::Result<T, Refused>;
 
 impl fmt::Display for Refused {

@@ -1,6 +1,6 @@
 //! What docs/ABI.md and host/c/worked.c work out, through the wrappers.
 use chherbolat::{
-    CodeMask, ExtendedId, Filter, Format, Frame, Id, Kind, ReceiveBox, Refusal, Refused, Result, StandardId,
+    CodeMask, ExtendedId, Filter, Format, Frame, Id, Kind, PatternByte, ReceiveBox, Refusal, Refused, Result, StandardId,
     decision::{self, Command, Decision, Outcome},
     file, raw,
     receive_box::{self, Arrival, Record, STATE_LENGTH, Step, Told, Words},
@@ -55,7 +55,8 @@ fn filters() {
     assert!(even.accepts(&Frame::new(standard(0x124), &[]).unwrap()));
     assert!(!even.accepts(&Frame::new(standard(0x7FF), &[]).unwrap()));
     assert_eq!(refused(Filter::single_standard(any, "x", "xxxxxxx", "xxxxxxxx")), (4, 2));
-    assert_eq!(refused(Filter::single_standard(any, "x", "xxxXxxxx", "xxxxxxxx")), (5, 15));
+    let upper = Filter::single_standard(any, "x", "xxxXxxxx", "xxxxxxxx").err().unwrap();
+    assert_eq!(upper.pattern_byte(), Some(PatternByte { field: 2, place: 3, found: b'X' }));
     let dual = Filter::dual_standard(any, "x", "10100101", any, "x").unwrap();
     assert_eq!(dual, Filter { kind: Kind::Dual, registers: [0, 0x0A, 0, 5, 0xFF, 0xF0, 0xFF, 0xF0] });
     let (id, free, bit) = (CodeMask { code: 0, mask: 0 }, CodeMask { code: 0, mask: 0 }, no_bit());

@@ -1,11 +1,9 @@
 -- `filter_compilers::compile` meets its contract: all are pattern characters and both words are the row's, or the first that is none is named. Assumes nothing.
-use Prim.Native.Nat.{ℕ}
 use mathlib.Core.List.{[], _∷_}
-use mathlib.Core.Path.{sym, ap, ap₂, _∙_}
+use mathlib.Core.Path.{sym, ap₂, _∙_}
 use borrow.Author.Tests.{not-true, not-false}
-use Rattle.laws.specs.Said.{refuses}
 use Rattle.filter_registers.specs.Registers.{registersOf}
-use Rattle.filter_compilers.proofs.Joined.{bad-said, good-said}
+use Rattle.filter_compilers.proofs.Joined.{good-said}
 use Rattle.filter_compilers.proofs.Answers.{answered-refused, answered-made}
 use borrow.Author.Needs.{needs}
 use Rattle.filter_compilers.proofs.compile.Statement.{statement}
@@ -17,17 +15,17 @@ slice-aggregate-all-known c = search needs
 all-known-requires : tie.Need-all-known-requires
 all-known-requires c κs = search needs
 
-first-bad-requires : tie.Need-first-bad-requires
-first-bad-requires c κs = search needs
+first-wrong-requires : tie.Need-first-wrong-requires
+first-wrong-requires c κs =
+    let start = c .before .before .before .before .before .before .before .before in
+    (start .pre .0, sym (start .pre .1) ∙ sym (c .before .all-known .ensures) ∙ not-true _ (c .if1 .taken))
 
 refused-requires : tie.Need-refused-requires
 refused-requires c κs = search needs
 
 returns : tie.Need-returns
 returns c =
-    let start = c .before .before .before .before .before .before .before .before .before .before in
-    let none = sym (start .pre .1) ∙ sym (c .before .before .before .all-known .ensures) ∙ not-true _ (c .before .before .if1 .taken) in
-    c .refused .ensures ∙ answered-refused _ _ 5 _ (bad-said _ none ∙ ap (λ (n : ℕ). refuses 5 (n ∷ [])) (sym (c .before .first-bad .ensures)))
+    c .refused .ensures ∙ answered-refused _ _ _ _ (sym (c .before .first-wrong .ensures))
 
 read-requires : tie.Need-read-requires
 read-requires c κs = sym (c .before .all-known .ensures) ∙ not-false _ (c .if1 .left)
@@ -47,8 +45,9 @@ made-requires c κs = search needs
 returns-2 : tie.Need-returns-2
 returns-2 c =
     let start = c .before .before .before .before .before .before .before .before .before .before in
+    let args = start .args in
     let all = sym (start .pre .1) ∙ sym (c .before .before .before .all-known .ensures) ∙ not-false _ (c .before .before .if1 .left) in
-    c .made .ensures ∙ answered-made _ _ _ (good-said _ all) (ap₂ registersOf (c .before .read .ensures .0) (c .before .read .ensures .1))
+    c .made .ensures ∙ answered-made _ _ _ (good-said 0 (args .a .now ∷ args .b .now ∷ args .c .now ∷ args .d .now ∷ args .e .now ∷ []) all) (ap₂ registersOf (c .before .read .ensures .0) (c .before .read .ensures .1))
 
 pub compile-spec : {M : Type 1} → statement M
 compile-spec =
@@ -56,7 +55,7 @@ compile-spec =
     (tie.spec
     slice-aggregate-all-known
     all-known-requires
-    first-bad-requires
+    first-wrong-requires
     refused-requires
     returns
     read-requires

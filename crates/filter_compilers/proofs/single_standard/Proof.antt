@@ -4,6 +4,7 @@ use mathlib.Core.List.{[], _∷_}
 use lib.ListN.{length}
 use native.Mathlib.Omega.{arith}
 use Rattle.filter_registers.specs.Answers.{compilingSaid}
+use Rattle.filter_characters.specs.Characters.{badAt}
 use Rattle.filter_compilers.specs.Table.{singleStandard, fieldsOf}
 use Rattle.filter_compilers.specs.Answers.{compileOf}
 use Rattle.filter_compilers.proofs.Lengths.{lengths-five}
@@ -55,12 +56,13 @@ compile-requires c κs =
     (omega (arith, lengths-five 11 1 8 8 0 (length (args .id .now)) (length (args .rtr .now)) (length (args .first .now)) (length (args .second .now)) 0 made), (single-standard (args .id .now) (args .rtr .now) (args .first .now) (args .second .now) _ _ _ _ made (c .before .before .before .before .drawn .ensures) (c .before .before .before .drawn2 .ensures) (c .before .before .drawn3 .ensures) (c .before .drawn4 .ensures)) .good)
 
 returns : tie.Need-returns
-unfolding compileOf fieldsOf
+unfolding compileOf fieldsOf badAt
 returns c =
     let args = c .before .before .before .before .before .before .before .before .before .args in
     c .refused .ensures ∙ length-refused 11 1 8 8 0 (args .id .now) (args .rtr .now) (args .first .now) (args .second .now) [] _ _ _ (sym (c .before .before .before .before .judge-lengths .ensures) ∙ ap compilingSaid (c .before .before .refusal .given .1))
 
 returns-2 : tie.Need-returns-2
+unfolding badAt
 returns-2 c =
     let args = c .before .before .before .before .before .before .before .before .before .before .before .before .before .args in
     let made = sym (c .before .before .before .before .before .before .before .before .judge-lengths .ensures) ∙ ap compilingSaid (c .before .before .before .before .before .before .enum-told .given .1) in

@@ -1,5 +1,5 @@
 //! The filter compilers of the driver's side. It takes patterns whose lengths are types, so refusal 4 is the rule of
-//! docs/ABI.md; it panics at a wrong byte, which is refusal 5 here.
+//! docs/ABI.md; it panics at a wrong byte, which is refusal 5 here, with the field, the place and the byte by the rule there.
 use std::{
     panic::{self, catch_unwind},
     slice,
@@ -217,7 +217,7 @@ fn compile(compiler: Compiler, patterns: &[&[u8]], registers: &mut [u8]) -> Answ
             *registers = made;
             Answer::gives(REGISTERS_LENGTH as u64)
         }
-        Err(_) => Answer::refuses(PATTERN_BYTE, first_wrong_place(compiler, patterns)),
+        Err(_) => Answer::refuses(PATTERN_BYTE, wrong_byte(patterns, first_wrong_place(compiler, patterns))),
     }
 }
 
@@ -247,7 +247,7 @@ unsafe fn array<const LENGTH: usize>(pattern: &[u8]) -> &[u8; LENGTH] {
 
 /// A panic tells no place: it is that of the last byte in the shortest beginning that panics with `x` after it.
 #[cold]
-fn first_wrong_place(compiler: Compiler, patterns: &[&[u8]]) -> u64 {
+fn first_wrong_place(compiler: Compiler, patterns: &[&[u8]]) -> usize {
     let joined = patterns.concat();
     let panics = |place: &usize| {
         let mut beginning = joined[..=*place].to_vec();
@@ -255,7 +255,20 @@ fn first_wrong_place(compiler: Compiler, patterns: &[&[u8]]) -> u64 {
         let patterns = compiler.split(&beginning);
         catch_unwind(|| unsafe { compiled(compiler, &patterns) }).is_err()
     };
-    (0..joined.len()).find(panics).expect("the whole panics") as u64
+    (0..joined.len()).find(panics).expect("the whole panics")
+}
+
+/// The rule of docs/ABI.md for a place in the fields joined: the field, the place in it and the byte, in one number.
+#[cold]
+fn wrong_byte(patterns: &[&[u8]], in_joined: usize) -> u64 {
+    let mut place = in_joined;
+    for (field, pattern) in patterns.iter().enumerate() {
+        if let Some(byte) = pattern.get(place) {
+            return (field as u64) << 16 | (place as u64) << 8 | u64::from(*byte);
+        }
+        place -= pattern.len();
+    }
+    unreachable!("the place is in one of the fields");
 }
 
 #[inline(always)]
