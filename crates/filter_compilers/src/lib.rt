@@ -181,6 +181,7 @@ pub fn single_standard(id: &[u8], rtr: &[u8], first: &[u8], second: &[u8]) -> Co
     match judge_lengths(widths, id.len(), rtr.len(), first.len(), second.len(), 0) {
         Compiling::Refused(refusal) => filter_registers::refused(refusal),
         Compiling::Made => {
+            // identifier 31 to 21, RTR 20, data bytes 15 to 8 and 7 to 0
             let identified = drawn(drawn([b'x'; 32], 21, id), 20, rtr);
             let row = drawn(drawn(identified, 8, first), 0, second);
             compile(row, id, rtr, first, second, b"")
@@ -201,6 +202,7 @@ pub fn single_extended(id: &[u8], rtr: &[u8]) -> Compiled
     match judge_lengths(widths, id.len(), rtr.len(), 0, 0, 0) {
         Compiling::Refused(refusal) => filter_registers::refused(refusal),
         Compiling::Made => {
+            // identifier 31 to 3, RTR 2
             let row = drawn(drawn([b'x'; 32], 3, id), 2, rtr);
             compile(row, id, rtr, b"", b"", b"")
         }
@@ -233,6 +235,7 @@ pub fn dual_standard(
     ) {
         Compiling::Refused(refusal) => filter_registers::refused(refusal),
         Compiling::Made => {
+            // identifier 31 to 21, RTR 20, high nibble 19 to 16; identifier 15 to 5, RTR 4, low nibble 3 to 0
             let identified = drawn(drawn([b'x'; 32], 21, first_id), 20, first_rtr);
             let first = drawn(identified, 16, &first_payload[..4]);
             let second = drawn(drawn(first, 5, second_id), 4, second_rtr);
@@ -262,6 +265,7 @@ pub fn dual_extended(first: &[u8], second: &[u8]) -> Compiled
     match judge_lengths(widths, first.len(), second.len(), 0, 0, 0) {
         Compiling::Refused(refusal) => filter_registers::refused(refusal),
         Compiling::Made => {
+            // 31 to 16, 15 to 0
             let row = drawn(drawn([b'x'; 32], 16, first), 0, second);
             compile(row, first, second, b"", b"", b"")
         }

@@ -28,13 +28,17 @@ enum-told c = search needs
 
 drawn-requires : tie.Need-drawn-requires
 drawn-requires c κs =
-    let args = c .before .before .before .before .before .args in
-    omega (arith, lengths-five 16 16 0 0 0 (length (args .first .now)) (length (args .second .now)) 0 0 0 (sym (c .before .before .judge-lengths .ensures) ∙ ap compilingSaid (c .enum-told .given .1)))
+    let told = c in
+    let args = told .before .before .before .before .before .args in
+    let made = sym (told .before .before .judge-lengths .ensures) ∙ ap compilingSaid (told .enum-told .given .1) in
+    omega (arith, lengths-five 16 16 0 0 0 (length (args .first .now)) (length (args .second .now)) 0 0 0 made)
 
 drawn-requires-2 : tie.Need-drawn-requires-2
 drawn-requires-2 c κs =
-    let args = c .before .before .before .before .before .before .args in
-    omega (arith, lengths-five 16 16 0 0 0 (length (args .first .now)) (length (args .second .now)) 0 0 0 (sym (c .before .before .before .judge-lengths .ensures) ∙ ap compilingSaid (c .before .enum-told .given .1)))
+    let told = c .before in
+    let args = told .before .before .before .before .before .args in
+    let made = sym (told .before .before .judge-lengths .ensures) ∙ ap compilingSaid (told .enum-told .given .1) in
+    omega (arith, lengths-five 16 16 0 0 0 (length (args .first .now)) (length (args .second .now)) 0 0 0 made)
 
 slice-aggregate-compile : tie.Need-slice-aggregate-compile
 slice-aggregate-compile c = search needs
@@ -47,22 +51,30 @@ slice-aggregate-compile-3 c = search needs
 
 compile-requires : tie.Need-compile-requires
 compile-requires c κs =
-    let args = c .before .before .before .before .before .before .before .before .before .before .args in
-    let made = sym (c .before .before .before .before .before .before .before .judge-lengths .ensures) ∙ ap compilingSaid (c .before .before .before .before .before .enum-told .given .1) in
-    (omega (arith, lengths-five 16 16 0 0 0 (length (args .first .now)) (length (args .second .now)) 0 0 0 made), (dual-extended (args .first .now) (args .second .now) _ _ made (c .before .before .before .before .drawn .ensures) (c .before .before .before .drawn2 .ensures)) .good)
+    let told = c .before .before .before .before .before in
+    let args = told .before .before .before .before .before .args in
+    let made = sym (told .before .before .judge-lengths .ensures) ∙ ap compilingSaid (told .enum-told .given .1) in (
+      omega (arith, lengths-five 16 16 0 0 0 (length (args .first .now)) (length (args .second .now)) 0 0 0 made),
+      (dual-extended (args .first .now) (args .second .now) _ _ made
+          (c .before .before .before .before .drawn .ensures) (c .before .before .before .drawn2 .ensures)) .good,
+    )
 
 returns : tie.Need-returns
 unfolding compileOf fieldsOf badAt
 returns c =
     let args = c .before .before .before .before .before .before .before .args in
-    c .refused .ensures ∙ length-refused 16 16 0 0 0 (args .first .now) (args .second .now) [] [] [] _ _ _ (sym (c .before .before .before .before .judge-lengths .ensures) ∙ ap compilingSaid (c .before .before .refusal .given .1))
+    c .refused .ensures ∙ length-refused 16 16 0 0 0 (args .first .now) (args .second .now) [] [] [] _ _ _
+    (sym (c .before .before .before .before .judge-lengths .ensures) ∙ ap compilingSaid (c .before .before .refusal .given .1))
 
 returns-2 : tie.Need-returns-2
 unfolding badAt
 returns-2 c =
-    let args = c .before .before .before .before .before .before .before .before .before .before .before .args in
-    let made = sym (c .before .before .before .before .before .before .before .before .judge-lengths .ensures) ∙ ap compilingSaid (c .before .before .before .before .before .before .enum-told .given .1) in
-    c .compile .ensures ∙ all-made dualExtended (args .first .now ∷ args .second .now ∷ []) _ (dual-extended (args .first .now) (args .second .now) _ _ made (c .before .before .before .before .before .drawn .ensures) (c .before .before .before .before .drawn2 .ensures))
+    let told = c .before .before .before .before .before .before in
+    let args = told .before .before .before .before .before .args in
+    let made = sym (told .before .before .judge-lengths .ensures) ∙ ap compilingSaid (told .enum-told .given .1) in
+    c .compile .ensures ∙ all-made dualExtended (args .first .now ∷ args .second .now ∷ []) _
+    (dual-extended (args .first .now) (args .second .now) _ _ made
+    (c .before .before .before .before .before .drawn .ensures) (c .before .before .before .before .drawn2 .ensures))
 
 pub dual-extended-spec : {M : Type 1} → statement M
 dual-extended-spec =

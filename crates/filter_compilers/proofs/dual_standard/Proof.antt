@@ -30,44 +30,68 @@ enum-told c = search needs
 
 drawn-requires : tie.Need-drawn-requires
 drawn-requires c κs =
-    let args = c .before .before .before .before .before .before .before .before .args in
-    omega (arith, lengths-five 11 1 8 11 1 (length (args .first-id .now)) (length (args .first-rtr .now)) (length (args .first-payload .now)) (length (args .second-id .now)) (length (args .second-rtr .now)) (sym (c .before .before .judge-lengths .ensures) ∙ ap compilingSaid (c .enum-told .given .1)))
+    let told = c in
+    let args = told .before .before .before .before .before .before .before .before .args in
+    let made = sym (told .before .before .judge-lengths .ensures) ∙ ap compilingSaid (told .enum-told .given .1) in
+    omega (arith, lengths-five 11 1 8 11 1 (length (args .first-id .now)) (length (args .first-rtr .now)) (length (args .first-payload .now)) (length (args .second-id .now)) (length (args .second-rtr .now)) made)
 
 drawn-requires-2 : tie.Need-drawn-requires-2
 drawn-requires-2 c κs =
-    let args = c .before .before .before .before .before .before .before .before .before .args in
-    omega (arith, lengths-five 11 1 8 11 1 (length (args .first-id .now)) (length (args .first-rtr .now)) (length (args .first-payload .now)) (length (args .second-id .now)) (length (args .second-rtr .now)) (sym (c .before .before .before .judge-lengths .ensures) ∙ ap compilingSaid (c .before .enum-told .given .1)))
+    let told = c .before in
+    let args = told .before .before .before .before .before .before .before .before .args in
+    let made = sym (told .before .before .judge-lengths .ensures) ∙ ap compilingSaid (told .enum-told .given .1) in
+    omega (arith, lengths-five 11 1 8 11 1 (length (args .first-id .now)) (length (args .first-rtr .now)) (length (args .first-payload .now)) (length (args .second-id .now)) (length (args .second-rtr .now)) made)
 
 slice-aggregate-drawn : tie.Need-slice-aggregate-drawn
 slice-aggregate-drawn c =
-    let args = c .before .before .before .before .before .before .before .before .before .before .before .args in
-    let four : length (take 4 (args .first-payload .now)) ≡ 4 = length-take-le 4 (args .first-payload .now) (omega (arith, lengths-five 11 1 8 11 1 (length (args .first-id .now)) (length (args .first-rtr .now)) (length (args .first-payload .now)) (length (args .second-id .now)) (length (args .second-rtr .now)) (sym (c .before .before .before .before .before .judge-lengths .ensures) ∙ ap compilingSaid (c .before .before .before .enum-told .given .1)))) in
+    let told = c .before .before .before in
+    let args = told .before .before .before .before .before .before .before .before .args in
+    let made = sym (told .before .before .judge-lengths .ensures) ∙ ap compilingSaid (told .enum-told .given .1) in
+    let four : length (take 4 (args .first-payload .now)) ≡ 4 = length-take-le 4 (args .first-payload .now)
+    (omega (arith, lengths-five 11 1 8 11 1 (length (args .first-id .now)) (length (args .first-rtr .now)) (length (args .first-payload .now)) (length (args .second-id .now)) (length (args .second-rtr .now)) made)) in
     sym four
 
 drawn-requires-3 : tie.Need-drawn-requires-3
 drawn-requires-3 c κs =
-    let args = c .before .before .before .before .before .before .before .before .before .before .before .args in
-    omega (arith, lengths-five 11 1 8 11 1 (length (args .first-id .now)) (length (args .first-rtr .now)) (length (args .first-payload .now)) (length (args .second-id .now)) (length (args .second-rtr .now)) (sym (c .before .before .before .before .before .judge-lengths .ensures) ∙ ap compilingSaid (c .before .before .before .enum-told .given .1)), length-take 4 (args .first-payload .now))
+    let told = c .before .before .before in
+    let args = told .before .before .before .before .before .before .before .before .args in
+    let made = sym (told .before .before .judge-lengths .ensures) ∙ ap compilingSaid (told .enum-told .given .1) in
+    omega (
+      arith,
+      lengths-five 11 1 8 11 1 (length (args .first-id .now)) (length (args .first-rtr .now)) (length (args .first-payload .now)) (length (args .second-id .now)) (length (args .second-rtr .now)) made,
+      length-take 4 (args .first-payload .now),
+    )
 
 drawn-requires-4 : tie.Need-drawn-requires-4
 drawn-requires-4 c κs =
-    let args = c .before .before .before .before .before .before .before .before .before .before .before .before .args in
-    omega (arith, lengths-five 11 1 8 11 1 (length (args .first-id .now)) (length (args .first-rtr .now)) (length (args .first-payload .now)) (length (args .second-id .now)) (length (args .second-rtr .now)) (sym (c .before .before .before .before .before .before .judge-lengths .ensures) ∙ ap compilingSaid (c .before .before .before .before .enum-told .given .1)))
+    let told = c .before .before .before .before in
+    let args = told .before .before .before .before .before .before .before .before .args in
+    let made = sym (told .before .before .judge-lengths .ensures) ∙ ap compilingSaid (told .enum-told .given .1) in
+    omega (arith, lengths-five 11 1 8 11 1 (length (args .first-id .now)) (length (args .first-rtr .now)) (length (args .first-payload .now)) (length (args .second-id .now)) (length (args .second-rtr .now)) made)
 
 drawn-requires-5 : tie.Need-drawn-requires-5
 drawn-requires-5 c κs =
-    let args = c .before .before .before .before .before .before .before .before .before .before .before .before .before .args in
-    omega (arith, lengths-five 11 1 8 11 1 (length (args .first-id .now)) (length (args .first-rtr .now)) (length (args .first-payload .now)) (length (args .second-id .now)) (length (args .second-rtr .now)) (sym (c .before .before .before .before .before .before .before .judge-lengths .ensures) ∙ ap compilingSaid (c .before .before .before .before .before .enum-told .given .1)))
+    let told = c .before .before .before .before .before in
+    let args = told .before .before .before .before .before .before .before .before .args in
+    let made = sym (told .before .before .judge-lengths .ensures) ∙ ap compilingSaid (told .enum-told .given .1) in
+    omega (arith, lengths-five 11 1 8 11 1 (length (args .first-id .now)) (length (args .first-rtr .now)) (length (args .first-payload .now)) (length (args .second-id .now)) (length (args .second-rtr .now)) made)
 
 sub-drawn : tie.Need-sub-drawn
 sub-drawn c =
-    let args = c .before .before .before .before .before .before .before .before .before .before .before .before .before .before .args in
-    omega (arith, lengths-five 11 1 8 11 1 (length (args .first-id .now)) (length (args .first-rtr .now)) (length (args .first-payload .now)) (length (args .second-id .now)) (length (args .second-rtr .now)) (sym (c .before .before .before .before .before .before .before .before .judge-lengths .ensures) ∙ ap compilingSaid (c .before .before .before .before .before .before .enum-told .given .1)))
+    let told = c .before .before .before .before .before .before in
+    let args = told .before .before .before .before .before .before .before .before .args in
+    let made = sym (told .before .before .judge-lengths .ensures) ∙ ap compilingSaid (told .enum-told .given .1) in
+    omega (arith, lengths-five 11 1 8 11 1 (length (args .first-id .now)) (length (args .first-rtr .now)) (length (args .first-payload .now)) (length (args .second-id .now)) (length (args .second-rtr .now)) made)
 
 part-drawn-start : tie.Need-part-drawn-start
 part-drawn-start c =
-    let args = c .before .before .before .before .before .before .before .before .before .before .before .before .before .before .args in
-    let room : 4 ≤ length (args .first-payload .now) = omega (arith, lengths-five 11 1 8 11 1 (length (args .first-id .now)) (length (args .first-rtr .now)) (length (args .first-payload .now)) (length (args .second-id .now)) (length (args .second-rtr .now)) (sym (c .before .before .before .before .before .before .before .before .judge-lengths .ensures) ∙ ap compilingSaid (c .before .before .before .before .before .before .enum-told .given .1))) in
+    let told = c .before .before .before .before .before .before in
+    let args = told .before .before .before .before .before .before .before .before .args in
+    let made = sym (told .before .before .judge-lengths .ensures) ∙ ap compilingSaid (told .enum-told .given .1) in
+    let room : 4 ≤ length (args .first-payload .now) = omega (
+      arith,
+      lengths-five 11 1 8 11 1 (length (args .first-id .now)) (length (args .first-rtr .now)) (length (args .first-payload .now)) (length (args .second-id .now)) (length (args .second-rtr .now)) made,
+    ) in
     room
 
 part-drawn-end : tie.Need-part-drawn-end
@@ -75,26 +99,45 @@ part-drawn-end c = search needs
 
 drawn-requires-6 : tie.Need-drawn-requires-6
 drawn-requires-6 c κs =
-    let args = c .before .before .before .before .before .before .before .before .before .before .before .before .before .before .before .args in
-    omega (arith, lengths-five 11 1 8 11 1 (length (args .first-id .now)) (length (args .first-rtr .now)) (length (args .first-payload .now)) (length (args .second-id .now)) (length (args .second-rtr .now)) (sym (c .before .before .before .before .before .before .before .before .before .judge-lengths .ensures) ∙ ap compilingSaid (c .before .before .before .before .before .before .before .enum-told .given .1)), length-take (length (args .first-payload .now) - 4) (drop 4 (args .first-payload .now)), length-drop 4 (args .first-payload .now))
+    let told = c .before .before .before .before .before .before .before in
+    let args = told .before .before .before .before .before .before .before .before .args in
+    let made = sym (told .before .before .judge-lengths .ensures) ∙ ap compilingSaid (told .enum-told .given .1) in
+    omega (
+      arith,
+      lengths-five 11 1 8 11 1 (length (args .first-id .now)) (length (args .first-rtr .now)) (length (args .first-payload .now)) (length (args .second-id .now)) (length (args .second-rtr .now)) made,
+      length-take (length (args .first-payload .now) - 4) (drop 4 (args .first-payload .now)),
+      length-drop 4 (args .first-payload .now),
+    )
 
 compile-requires : tie.Need-compile-requires
 compile-requires c κs =
-    let args = c .before .before .before .before .before .before .before .before .before .before .before .before .before .before .before .before .args in
-    let made = sym (c .before .before .before .before .before .before .before .before .before .before .judge-lengths .ensures) ∙ ap compilingSaid (c .before .before .before .before .before .before .before .before .enum-told .given .1) in
-    (omega (arith, lengths-five 11 1 8 11 1 (length (args .first-id .now)) (length (args .first-rtr .now)) (length (args .first-payload .now)) (length (args .second-id .now)) (length (args .second-rtr .now)) made), (dual-standard (args .first-id .now) (args .first-rtr .now) (args .first-payload .now) (args .second-id .now) (args .second-rtr .now) _ _ _ _ _ _ _ made (c .before .before .before .before .before .before .before .drawn .ensures) (c .before .before .before .before .before .before .drawn2 .ensures) (c .before .before .before .before .drawn3 .ensures) (c .before .before .before .drawn4 .ensures) (c .before .before .drawn5 .ensures) (c .drawn6 .ensures) (rest-is 4 (args .first-payload .now))) .good)
+    let told = c .before .before .before .before .before .before .before .before in
+    let args = told .before .before .before .before .before .before .before .before .args in
+    let made = sym (told .before .before .judge-lengths .ensures) ∙ ap compilingSaid (told .enum-told .given .1) in (
+      omega (arith, lengths-five 11 1 8 11 1 (length (args .first-id .now)) (length (args .first-rtr .now)) (length (args .first-payload .now)) (length (args .second-id .now)) (length (args .second-rtr .now)) made),
+      (dual-standard (args .first-id .now) (args .first-rtr .now) (args .first-payload .now) (args .second-id .now) (args .second-rtr .now) _ _ _ _ _ _ _ made
+          (c .before .before .before .before .before .before .before .drawn .ensures) (c .before .before .before .before .before .before .drawn2 .ensures)
+          (c .before .before .before .before .drawn3 .ensures) (c .before .before .before .drawn4 .ensures)
+          (c .before .before .drawn5 .ensures) (c .drawn6 .ensures) (rest-is 4 (args .first-payload .now))) .good,
+    )
 
 returns : tie.Need-returns
 unfolding compileOf fieldsOf
 returns c =
     let args = c .before .before .before .before .before .before .before .before .before .before .args in
-    c .refused .ensures ∙ length-refused 11 1 8 11 1 (args .first-id .now) (args .first-rtr .now) (args .first-payload .now) (args .second-id .now) (args .second-rtr .now) _ _ _ (sym (c .before .before .before .before .judge-lengths .ensures) ∙ ap compilingSaid (c .before .before .refusal .given .1))
+    c .refused .ensures ∙ length-refused 11 1 8 11 1 (args .first-id .now) (args .first-rtr .now) (args .first-payload .now) (args .second-id .now) (args .second-rtr .now) _ _ _
+    (sym (c .before .before .before .before .judge-lengths .ensures) ∙ ap compilingSaid (c .before .before .refusal .given .1))
 
 returns-2 : tie.Need-returns-2
 returns-2 c =
-    let args = c .before .before .before .before .before .before .before .before .before .before .before .before .before .before .before .before .before .args in
-    let made = sym (c .before .before .before .before .before .before .before .before .before .before .before .judge-lengths .ensures) ∙ ap compilingSaid (c .before .before .before .before .before .before .before .before .before .enum-told .given .1) in
-    c .compile .ensures ∙ all-made dualStandard (args .first-id .now ∷ args .first-rtr .now ∷ args .first-payload .now ∷ args .second-id .now ∷ args .second-rtr .now ∷ []) _ (dual-standard (args .first-id .now) (args .first-rtr .now) (args .first-payload .now) (args .second-id .now) (args .second-rtr .now) _ _ _ _ _ _ _ made (c .before .before .before .before .before .before .before .before .drawn .ensures) (c .before .before .before .before .before .before .before .drawn2 .ensures) (c .before .before .before .before .before .drawn3 .ensures) (c .before .before .before .before .drawn4 .ensures) (c .before .before .before .drawn5 .ensures) (c .before .drawn6 .ensures) (rest-is 4 (args .first-payload .now)))
+    let told = c .before .before .before .before .before .before .before .before .before in
+    let args = told .before .before .before .before .before .before .before .before .args in
+    let made = sym (told .before .before .judge-lengths .ensures) ∙ ap compilingSaid (told .enum-told .given .1) in
+    c .compile .ensures ∙ all-made dualStandard (args .first-id .now ∷ args .first-rtr .now ∷ args .first-payload .now ∷ args .second-id .now ∷ args .second-rtr .now ∷ []) _
+    (dual-standard (args .first-id .now) (args .first-rtr .now) (args .first-payload .now) (args .second-id .now) (args .second-rtr .now) _ _ _ _ _ _ _ made
+    (c .before .before .before .before .before .before .before .before .drawn .ensures) (c .before .before .before .before .before .before .before .drawn2 .ensures)
+    (c .before .before .before .before .before .drawn3 .ensures) (c .before .before .before .before .drawn4 .ensures)
+    (c .before .before .before .drawn5 .ensures) (c .before .drawn6 .ensures) (rest-is 4 (args .first-payload .now)))
 
 pub dual-standard-spec : {M : Type 1} → statement M
 dual-standard-spec =
