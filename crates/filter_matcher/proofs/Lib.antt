@@ -1,8 +1,10 @@
 pub mod Digits
 pub mod Halves
+pub mod Fits
 pub mod Ones
 pub mod Rows
 pub mod Named
 pub mod Positions
 pub mod EndToEnd
+pub mod Short
 pub mod Only

@@ -15,8 +15,8 @@ use Rattle.filter_compilers.specs.Meaning.{distinct, within, characterIn, chara
 use Rattle.filter_types.proofs.Builders.{laid-small}
 use Rattle.filter_compilers.proofs.Table.{row-distinct}
 use Rattle.filter_compilers.proofs.Mapped.{mapped-joined, mapped-take, mapped-drop}
-use Rattle.frame_info.specs.Info.{extendedOf}
-use Rattle.filter_matcher.specs.Fields.{rowFor, shownIn, shownBits, firstFields}
+use Rattle.frame_info.specs.Info.{extendedOf, dataLengthOf}
+use Rattle.filter_matcher.specs.Fields.{rowFor, shownIn, shownBits, comparedFields, firstFields}
 use Rattle.filter_matcher.specs.Shown.{onesAt, showBy, showOf}
 use Rattle.filter_matcher.specs.declared.shown.Shown.{Shown}
 use Rattle.filter_matcher.proofs.Digits.{shownAt, shown-each}
@@ -62,9 +62,10 @@ or-none false b e = e
 
 -- ---- the law: the compare of the words that a frame shows is the definition
 module _ (registers frame : List ℕ) (code-small : codeIn registers < 2 ^ 32) (mask-small : maskIn registers < 2 ^ 32) where
-  half₁ : (filter : Filter) → eqb (missOf (codeIn registers) (maskIn registers) (laidOf (fieldsOf filter) (shownIn filter frame)) (onesAt (joined (take (firstFields filter) (fieldsOf filter))))) 0
-      ≡ allFit (joined (take (firstFields filter) (patternsIn registers (fieldsOf filter)))) (joined (take (firstFields filter) (shownBits filter frame)))
-  half₁ filter = first-half registers filter (shownIn filter frame) (numbers-whole filter _ _ _ _) code-small mask-small (firstFields filter) (first-distinct filter) (first-within filter)
+  half₁ : (filter : Filter) (bytes : ℕ) → eqb (missOf (codeIn registers) (maskIn registers) (laidOf (fieldsOf filter) (shownIn filter frame)) (onesAt (joined (take (comparedFields filter bytes) (fieldsOf filter))))) 0
+      ≡ allFit (joined (take (comparedFields filter bytes) (patternsIn registers (fieldsOf filter)))) (joined (take (comparedFields filter bytes) (shownBits filter frame)))
+  half₁ filter bytes =
+      first-half registers filter (shownIn filter frame) (numbers-whole filter _ _ _ _) code-small mask-small (comparedFields filter bytes) (first-distinct filter bytes) (first-within filter bytes)
 
   half₂ : (filter : Filter) → eqb (missOf (codeIn registers) (maskIn registers) (laidOf (fieldsOf filter) (shownIn filter frame)) (onesAt (joined (drop (firstFields filter) (fieldsOf filter))))) 0
       ≡ allFit (joined (drop (firstFields filter) (patternsIn registers (fieldsOf filter)))) (joined (drop (firstFields filter) (shownBits filter frame)))
@@ -72,8 +73,8 @@ module _ (registers frame : List ℕ) (code-small : codeIn registers < 2 ^ 32) (
 
   pub agrees-is : (dual : Bool) → agreesOf dual (codeIn registers) (maskIn registers) (showOf frame) ≡ acceptsOf dual registers frame
   unfolding agreesOf showOf showBy acceptsOf fitsEither
-  agrees-is true = ap₂ (λ (a b : Bool). a || b) (half₁ (rowFor true (extendedOf frame))) (half₂ (rowFor true (extendedOf frame)))
-  agrees-is false = or-none _ _ (half₁ (rowFor false (extendedOf frame)))
+  agrees-is true = ap₂ (λ (a b : Bool). a || b) (half₁ (rowFor true (extendedOf frame)) (dataLengthOf frame)) (half₂ (rowFor true (extendedOf frame)))
+  agrees-is false = or-none _ _ (half₁ (rowFor false (extendedOf frame)) (dataLengthOf frame))
 
   pub compare-is : (kind : ℕ) → compareOf kind (codeIn registers) (maskIn registers) (showOf frame) ≡ matchOf kind registers frame
   unfolding compareOf matchOf

@@ -10,8 +10,8 @@ use crate::shown::Shown;
 use refusals::Refusal;
 
 pub enum Matching {
-    Accepted,
     NotAccepted,
+    Accepted,
     Refused(Refusal),
 }
 

@@ -1,5 +1,5 @@
 -- The outline's numbers: for each, what the definitions answer and what the outline says.
--- Source: the outline, "Numbers to check".
+-- Source: the outline, "Numbers to check"; request #103 for P11.
 use Prim.Native.Nat.{ℕ, _-_}
 use mathlib.Core.Bool.{Bool, true, false, cond}
 use mathlib.Core.List.{List, [], _∷_, _++_}
@@ -55,6 +55,14 @@ one = 49
 abbrev spare : ℕ → List ℕ
 spare n = replicate n 120
 
+-- the single standard filter of P11, whose first byte is `00000001`
+abbrev firstByteIsOne : Answered
+firstByteIsOne = compileOf singleStandard (spare 11 ∷ spare 1 ∷ (replicate 7 zero ++ one ∷ []) ∷ spare 8 ∷ [])
+
+-- whether a filter that was compiled accepts a frame that was built
+abbrev judgedBy : Answered → Frame → Answered
+judgedBy filter f = andThen filter (λ registers. andThen (buildOf f) (λ buffer. (flagSaid (matchOf 0 registers buffer), [])))
+
 abbrev pub valueRows : List Row
 valueRows =
     -- P1
@@ -86,10 +94,11 @@ valueRows =
     (gives 8, 0xFF ∷ 0xE0 ∷ 0 ∷ 0 ∷ 0xFF ∷ 0xDF ∷ 0xFF ∷ 0xFF ∷ [])
     ∷ row (compileOf singleStandard ((spare 10 ++ one ∷ []) ∷ spare 1 ∷ spare 8 ∷ spare 8 ∷ []))
     (gives 8, 0 ∷ 0x20 ∷ 0 ∷ 0 ∷ 0xFF ∷ 0xDF ∷ 0xFF ∷ 0xFF ∷ [])
-    -- P11
-    ∷ row (andThen (compileOf singleStandard (spare 11 ∷ spare 1 ∷ (replicate 7 zero ++ one ∷ []) ∷ spare 8 ∷ []))
-    (λ registers. andThen (buildOf (standard 1 0 [])) (λ buffer. (flagSaid (matchOf 0 registers buffer), []))))
-    (gives 0, [])
+    -- P11: the filter is compiled, and the frame without data is accepted
+    ∷ row firstByteIsOne (gives 8, 0 ∷ 0 ∷ 1 ∷ 0 ∷ 0xFF ∷ 0xFF ∷ 0 ∷ 0xFF ∷ [])
+    ∷ row (judgedBy firstByteIsOne (standard 1 0 [])) (gives 1, [])
+    -- and a frame whose one byte is another, not
+    ∷ row (judgedBy firstByteIsOne (standard 1 1 (0 ∷ []))) (gives 0, [])
     ∷ []
 
 -- P12: the box before the drain (how many are queued, and a 1 for each whole entry), and after it (how many are queued; stored, lost, left)

@@ -1,15 +1,11 @@
 -- `filter_matcher::shown::show` meets its contract: the identifier's case is the frame's format, which picks the rows, and the frame's readers give the numbers.
 -- Assumes nothing.
-use Prim.Native.Nat.{ℕ}
-use mathlib.Core.Path.{ap, ap₂, _∙_}
+use mathlib.Core.Path.{ap, _∙_}
 use mathlib.Core.Bool.{true, false}
-use mathlib.Core.List.{List}
-use lib.ListN.{getD}
 use native.Mathlib.Omega.{arith}
 use borrow.Author.Needs.{needs}
 use Rattle.laws.specs.Row.{bit}
-use Rattle.filter_matcher.specs.Shown.{showBy}
-use Rattle.filter_matcher.proofs.Rows.{no-data, shown-by, read-as}
+use Rattle.filter_matcher.proofs.Rows.{no-data, standard-shown, shown-by, read-as}
 use Rattle.filter_matcher.proofs.shown.show.Statement.{statement}
 use Rattle.filter_matcher.proofs.shown.show.Tie as tie
 
@@ -40,24 +36,30 @@ show-extended-requires c κs =
 enum-known-id-2 : tie.Need-enum-known-id-2
 enum-known-id-2 c = search needs
 
-data-requires : tie.Need-data-requires
-data-requires c κs = search needs
+bytes-in-requires : tie.Need-bytes-in-requires
+bytes-in-requires c κs = search needs
 
-byte-at-requires : tie.Need-byte-at-requires
-byte-at-requires c κs = search needs
+element-copy-out-wide : tie.Need-element-copy-out-wide
+element-copy-out-wide c = search needs
 
-byte-at-requires-2 : tie.Need-byte-at-requires-2
-byte-at-requires-2 c κs = search needs
+wide-requires-2 : tie.Need-wide-requires-2
+wide-requires-2 c κs = search needs
+
+element-copy-out-wide-2 : tie.Need-element-copy-out-wide-2
+element-copy-out-wide-2 c = search needs
+
+wide-requires-3 : tie.Need-wide-requires-3
+wide-requires-3 c κs = search needs
 
 show-standard-requires : tie.Need-show-standard-requires
 show-standard-requires c κs =
-    let told = c .before .before .before .before in
+    let told = c .before .before .before .before .before .before in
     let widened = told .before .before in
     let read = widened .before .before .before in (
       read-as _ _ _ (told .id2 .given .1) (read .identifier .ensures) .1,
       omega (arith, widened .wide .ensures .0, widened .before .one-bit .ensures .1),
-      c .before .byte-at .ensures .1,
-      c .byte-at2 .ensures .1,
+      c .before .before .wide2 .ensures .1,
+      c .wide3 .ensures .1,
     )
 
 returns : tie.Need-returns
@@ -68,20 +70,19 @@ returns c =
     let frame = read .before .args .frame .now in
     let rtr = widened .wide .ensures .0 ∙ widened .before .one-bit .ensures .0 ∙ ap bit (widened .before .before .is-remote-request .ensures) in
     c .show-extended .ensures
-    ∙ shown-by frame true _ _ 0 0 (read-as _ _ _ (told .id .given .1) (read .identifier .ensures) .0) rtr (no-data _ _ _ _)
+    ∙ shown-by frame true _ _ 0 0 0 (read-as _ _ _ (told .id .given .1) (read .identifier .ensures) .0) rtr (no-data _ _ _ _ _)
 
 returns-2 : tie.Need-returns-2
 returns-2 c =
-    let held = c .before .before .before in
-    let told = held .before .before in
+    let measured = c .before .before .before .before .before in
+    let told = measured .before .before in
     let widened = told .before .before in
     let read = widened .before .before .before in
     let frame = read .before .args .frame .now in
+    let own = read-as _ _ _ (told .id2 .given .1) (read .identifier .ensures) .0 in
     let rtr = widened .wide .ensures .0 ∙ widened .before .one-bit .ensures .0 ∙ ap bit (widened .before .before .is-remote-request .ensures) in
-    let first = c .before .before .byte-at .ensures .0 ∙ ap (λ (l : List ℕ). getD l 0 0) (held .«data» .ensures) in
-    let second = c .before .byte-at2 .ensures .0 ∙ ap (λ (l : List ℕ). getD l 1 0) (held .«data» .ensures) in
     c .show-standard .ensures
-    ∙ shown-by frame false _ _ _ _ (read-as _ _ _ (told .id2 .given .1) (read .identifier .ensures) .0) rtr (ap₂ (showBy false _ _) first second)
+    ∙ standard-shown frame _ _ _ _ _ own rtr (measured .bytes-in .ensures) (c .before .before .before .wide2 .ensures .0) (c .before .wide3 .ensures .0)
 
 pub show-spec : {M : Type 1} → statement M
 show-spec =
@@ -94,9 +95,11 @@ show-spec =
     enum-known-id
     show-extended-requires
     enum-known-id-2
-    data-requires
-    byte-at-requires
-    byte-at-requires-2
+    bytes-in-requires
+    element-copy-out-wide
+    wide-requires-2
+    element-copy-out-wide-2
+    wide-requires-3
     show-standard-requires
     returns
     returns-2)

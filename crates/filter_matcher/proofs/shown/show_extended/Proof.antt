@@ -21,7 +21,7 @@ add-t8 : tie.Need-add-t8
 add-t8 c = search needs
 
 returns : tie.Need-returns
-returns c = extended-rows _ _ _ _ _ _ (c .before .before .pre .0) (c .before .before .pre .1) refl refl
+returns c = extended-rows _ _ _ _ _ _ _ (c .before .before .pre .0) (c .before .before .pre .1) refl refl
 
 pub show-extended-spec : {M : Type 1} → statement M
 show-extended-spec = tie.close (tie.spec mul-t4 mul-t5 add-t6 mul-t7 add-t8 returns)

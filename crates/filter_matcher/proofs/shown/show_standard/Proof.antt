@@ -26,29 +26,37 @@ mul-second-2 c = search needs
 add-second : tie.Need-add-second
 add-second c = search needs
 
-mul-t8 : tie.Need-mul-t8
-mul-t8 c = search needs
-
-add-t9 : tie.Need-add-t9
-add-t9 c = search needs
+mul-t9 : tie.Need-mul-t9
+mul-t9 c = search needs
 
 add-t10 : tie.Need-add-t10
 add-t10 c = search needs
 
-mul-t12 : tie.Need-mul-t12
-mul-t12 c = search needs
+add-t11 : tie.Need-add-t11
+add-t11 c = search needs
 
-add-t13 : tie.Need-add-t13
-add-t13 c = search needs
+named-single-requires : tie.Need-named-single-requires
+named-single-requires c κs = search needs
+
+mul-t14 : tie.Need-mul-t14
+mul-t14 c = search needs
 
 add-t15 : tie.Need-add-t15
 add-t15 c = search needs
 
-add-t16 : tie.Need-add-t16
-add-t16 c = search needs
+add-t17 : tie.Need-add-t17
+add-t17 c = search needs
+
+add-t18 : tie.Need-add-t18
+add-t18 c = search needs
+
+named-first-requires : tie.Need-named-first-requires
+named-first-requires c κs = search needs
 
 returns : tie.Need-returns
-returns c = standard-rows _ _ _ _ _ _ (c .before .pre .0) (c .before .pre .1) (c .before .pre .2) (c .before .pre .3) (omega arith) (omega arith)
+returns c =
+    let pre = c .before .before .before .pre in
+    standard-rows _ _ _ _ _ _ _ _ _ (pre .0) (pre .1) (pre .2) (pre .3) (c .before .named-single .ensures) (c .named-first .ensures) (omega arith) (omega arith)
 
 pub show-standard-spec : {M : Type 1} → statement M
 show-standard-spec =
@@ -61,11 +69,13 @@ show-standard-spec =
     mul-second
     mul-second-2
     add-second
-    mul-t8
-    add-t9
+    mul-t9
     add-t10
-    mul-t12
-    add-t13
+    add-t11
+    named-single-requires
+    mul-t14
     add-t15
-    add-t16
+    add-t17
+    add-t18
+    named-first-requires
     returns)
