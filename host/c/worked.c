@@ -182,7 +182,7 @@ static void matching(void)
     refuses("matcher, 12 bytes", chherbolat_matcher_accepts(2, registers.bytes, REGISTERS, frame.bytes, 12),
             WRONG_LENGTH, 2);
     gives("P11, filter", single_standard("xxxxxxxxxxx", "00000001"), REGISTERS);
-    gives("P11", chherbolat_matcher_accepts(CHHERBOLAT_KIND_SINGLE, lent_bytes, REGISTERS, no_data.bytes, FRAME), 0);
+    gives("P11", chherbolat_matcher_accepts(CHHERBOLAT_KIND_SINGLE, lent_bytes, REGISTERS, no_data.bytes, FRAME), 1);
 }
 
 /* An answer and a command as one value. */

@@ -1,6 +1,7 @@
 //! The matcher, by words: a frame is laid out once as a filter sees it, and a filter compares at once.
 
-/// What a frame shows to a single and to a dual filter, each with the positions that the frame's format names.
+/// What a frame shows to a single and to a dual filter, each with the positions that the frame's format names; those of
+/// the payload only for bytes that the frame has.
 #[derive(Clone, Copy)]
 pub struct View {
     single: u32,
@@ -26,20 +27,23 @@ impl View {
             Self::of_extended(u32::from_be_bytes([frame[1], frame[2], frame[3], frame[4]]), remote)
         } else {
             let length = if remote == 1 { 0 } else { frame[0] & 0x0F };
-            let first = if length > 0 { frame[3] } else { 0 };
-            let second = if length > 1 { frame[4] } else { 0 };
-            Self::of_standard(u16::from_be_bytes([frame[1], frame[2]]), remote, first, second)
+            Self::of_standard(u16::from_be_bytes([frame[1], frame[2]]), remote, length, [frame[3], frame[4]])
         }
     }
 
-    fn of_standard(id_at_top: u16, remote: u32, first: u8, second: u8) -> Self {
+    fn of_standard(id_at_top: u16, remote: u32, length: u8, payload: [u8; 2]) -> Self {
         let half = u32::from(id_at_top & 0xFFE0) | remote << 4;
-        let byte = u32::from(first);
+        let byte = u32::from(payload[0]);
+        let (single_named, first_named) = match length {
+            0 => (0xFFF0_0000, 0xFFF0_0000),
+            1 => (0xFFF0_FF00, 0xFFFF_000F),
+            _ => (0xFFF0_FFFF, 0xFFFF_000F),
+        };
         View {
-            single: half << 16 | byte << 8 | u32::from(second),
-            single_named: 0xFFF0_FFFF,
+            single: half << 16 | u32::from(u16::from_be_bytes(payload)),
+            single_named,
             dual: half << 16 | half | (byte & 0xF0) << 12 | byte & 0x0F,
-            first_named: 0xFFFF_000F,
+            first_named,
             second_named: 0x0000_FFF0,
         }
     }

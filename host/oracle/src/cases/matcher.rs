@@ -116,7 +116,8 @@ struct Fitting {
     by_characters: bool,
 }
 
-/// A filter for the frame's format from the frame's own characters, some of them `x`; half of its halves with mistakes.
+/// A filter for the frame's format from the frame's own characters, `0` for one that it lacks, some of them `x`; half of its
+/// halves with mistakes.
 fn fitting(filters: &Filters, dual: bool, frame: &[u8], random: &mut Random) -> Fitting {
     let frame = probe::as_frame(frame.try_into().expect("as long as a frame"));
     let compiler = Compiler::of(dual, probe::is_extended_format(frame));
@@ -126,6 +127,9 @@ fn fitting(filters: &Filters, dual: bool, frame: &[u8], random: &mut Random) -> 
     for half in compiler.halves() {
         let mistakes = random.one_in(2);
         for character in patterns[half].iter_mut().flatten() {
+            if *character == characters::MISSING {
+                *character = b'0';
+            }
             if !random.one_in(one_kept_of) {
                 *character = b'x';
             } else if mistakes && random.one_in(6) {
