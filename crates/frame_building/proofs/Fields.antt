@@ -12,15 +12,13 @@ use Rattle.laws.specs.Row.{regroup, bytes, bit, Fit, none, field}
 use Rattle.laws.specs.Tabulate.{part}
 use Rattle.laws.proofs.Row.{unpack-pack, regroup-back}
 use Rattle.laws.proofs.Tabulate.{part-is}
-use Rattle.laws.specs.Said.{gives}
 use Rattle.identifiers.specs.Limits.{limitOf}
 use Rattle.frame_info.specs.Info.{idBytes, dataStart, infoOf, extendedOf, remoteOf, ownOf, codeOf, dataLengthOf}
 use Rattle.frame_reading.specs.Buffer.{Frame, idRow, idFields, idIn, idOf, dataOf}
 use Rattle.frame_reading.proofs.Reading.{row-width}
 use Rattle.frame_building.specs.Buffer.{idBytesOf, bufferOf}
-use Rattle.frame_building.specs.Building.{judged}
+use Rattle.frame_building.specs.Good.{Good}
 use Rattle.frame_building.proofs.Buffer.{ids-length}
-use Rattle.frame_building.proofs.Judged.{Good, judged-good}
 
 bit-below : (b : Bool) → bit b < 2 ^ 1
 bit-below false = omega arith
@@ -36,8 +34,8 @@ id-fits false id h = field 11 id (omega arith) (field 5 0 (omega arith) none)
 id-fits true id h = field 29 id (omega arith) (field 3 0 (omega arith) none)
 
 -- the data length that an accepted code gives
-coded-length : (remote : Bool) (code n : ℕ) → n ≤ 8 → (remote ≡ true → n ≡ 0) → (n < 8 → code ≡ n) → (n ≡ 8 → 8 ≤ code)
-    → cond remote 0 (min code 8) ≡ n
+coded-length : (remote : Bool) (code n : ℕ) → n ≤ 8 → (remote ≡ true → n ≡ 0) → (remote ≡ false → n < 8 → code ≡ n)
+    → (remote ≡ false → n ≡ 8 → 8 ≤ code) → cond remote 0 (min code 8) ≡ n
 coded-length true code n short empty equal full = sym (empty refl)
 coded-length false code n short empty equal full = by (ltb n 8) refl
   where
@@ -45,13 +43,10 @@ coded-length false code n short empty equal full = by (ltb n 8) refl
     full-length m p q = omega arith
 
     by : (less : Bool) → ltb n 8 ≡ less → min code 8 ≡ n
-    by true e = let h : n < 8 = ltb-true n 8 e in omega (arith, equal h)
-    by false e = let h : n ≡ 8 = full-length n short (ltb-false n 8 e) in omega (arith, full h)
+    by true e = let h : n < 8 = ltb-true n 8 e in omega (arith, equal refl h)
+    by false e = let h : n ≡ 8 = full-length n short (ltb-false n 8 e) in omega (arith, full refl h)
 
-module _ (f : Frame) (made : judged f ≡ gives 13) where
-  pub good : Good (f .extended) (f .id) (f .remote) (f .code) (length (f .payload))
-  good = judged-good _ _ _ _ _ made
-
+module _ (most : ℕ) (f : Frame) (good : Good most f) where
   pub built-info : infoOf (bufferOf f) ≡ bit (f .extended) ∷ bit (f .remote) ∷ 0 ∷ bit (f .own) ∷ f .code ∷ []
   unfolding bufferOf
   built-info =

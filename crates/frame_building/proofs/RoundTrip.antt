@@ -1,8 +1,8 @@
--- What is built reads back the same; all else in a built buffer is zero; and a buffer with all else zero is made again from what
+-- What is built, in whatever way, reads back the same; all else in a built buffer is zero; and a buffer with all else zero is made again from what
 -- is read of it. The rows of fields leave no bit out and share none, so each way is the laws of rows. Assumes nothing.
 use Prim.Native.Nat.{ℕ, _+_, _-_, _/_, _%_, _≤_, _<_, min}
 use mathlib.Core.Path.{_≡_, refl, ap, sym, _∙_}
-use mathlib.Core.Bool.{Bool, true, false, cond}
+use mathlib.Core.Bool.{Bool, true, false, cond, true≢false}
 use mathlib.Core.List.{List, [], _∷_, _++_}
 use lib.Dec.{eqb}
 use lib.ListN.{length, getD, drop, replicate, length-drop, take-append-drop}
@@ -19,41 +19,35 @@ use Rattle.frame_reading.specs.Buffer.{Frame, idRow, frameOf, idFields, idOf, d
 use Rattle.frame_info.proofs.Info.{start-bound, data-bound, used-bound}
 use Rattle.frame_reading.proofs.Reading.{row-width, two-fields, bytes-row-fit, id-within}
 use Rattle.frame_building.specs.Buffer.{infoByte, idBytesOf, bufferOf}
-use Rattle.frame_building.specs.Building.{judged, buildOf}
+use Rattle.frame_building.specs.Building.{buildBy}
+use Rattle.frame_building.specs.Good.{Good}
 use Rattle.frame_building.specs.Clean.{Clean}
-use Rattle.frame_building.proofs.Judged.{good-judged}
-use Rattle.frame_building.proofs.Fields.{good, built-info, built-extended, built-remote, built-own, built-code, built-id, built-spare, built-length, built-data, built-rest}
+use Rattle.frame_building.proofs.Judged.{accepted-build}
+use Rattle.frame_building.proofs.Fields.{built-info, built-extended, built-remote, built-own, built-code, built-id, built-spare, built-length, built-data, built-rest}
 
 same-frame : (f g : Frame) → f .extended ≡ g .extended → f .remote ≡ g .remote → f .own ≡ g .own → f .code ≡ g .code → f .id ≡ g .id
     → f .payload ≡ g .payload → f ≡ g
 same-frame f g a b c d e h =
     rw (a, b, c, d, e, h)
 
-pub reads-back : (f : Frame) → judged f ≡ gives 13 → frameOf (bufferOf f) ≡ f
-reads-back f made =
-    same-frame (frameOf (bufferOf f)) f (built-extended f made) (built-remote f made) (built-own f made) (built-code f made)
-    (built-id f made) (built-data f made)
+-- ---- what a way of building makes, by its largest remote code
+module _ (most : ℕ) (f : Frame) (good : Good most f) where
+  pub reads-back : frameOf (bufferOf f) ≡ f
+  reads-back =
+      same-frame (frameOf (bufferOf f)) f (built-extended most f good) (built-remote most f good) (built-own most f good) (built-code most f good)
+      (built-id most f good) (built-data most f good)
 
-accepted-build : (f : Frame) → judged f ≡ gives 13 → buildOf f ≡ (gives 13, bufferOf f)
-unfolding buildOf
-accepted-build f made = rw made
+  pub built-again : buildBy most (frameOf (bufferOf f)) ≡ (gives 13, bufferOf f)
+  built-again = ap (buildBy most) reads-back ∙ accepted-build most f good
 
-pub built-again : (f : Frame) → judged f ≡ gives 13 → buildOf (frameOf (bufferOf f)) ≡ (gives 13, bufferOf f)
-built-again f made = ap buildOf (reads-back f made) ∙ accepted-build f made
-
-pub built-clean : (f : Frame) → judged f ≡ gives 13 → Clean (bufferOf f)
-built-clean f made =
-    record {
-      reserved-bit = ap (λ (l : List ℕ). getD l 2 0) (built-info f made);
-      spare-bits = built-spare f made;
-      after-data = rw (built-length f made, built-extended f made) (built-rest f made);
-      remote-code = λ r. code-zero (sym (built-remote f made) ∙ r);
-    }
-  where
-    code-zero : f .remote ≡ true → codeOf (bufferOf f) ≡ 0
-    code-zero r =
-        let none : length (f .payload) ≡ 0 = good f made .empty r in
-        built-code f made ∙ (good f made .equal (omega arith) ∙ none)
+  pub built-clean : Clean most (bufferOf f)
+  built-clean =
+      record {
+        reserved-bit = ap (λ (l : List ℕ). getD l 2 0) (built-info most f good);
+        spare-bits = built-spare most f good;
+        after-data = rw (built-length most f good, built-extended most f good) (built-rest most f good);
+        remote-code = λ r. rw (built-code most f good) (good .request (sym (built-remote most f good) ∙ r));
+      }
 
 read-bit : (x : ℕ) → x < 2 → bit (eqb x 1) ≡ x
 read-bit x h = by (eqb x 1) refl
@@ -65,16 +59,16 @@ read-bit x h = by (eqb x 1) refl
     by true e = rw e (sym (eqb-true x 1 e))
     by false e = rw e (zero-is x h (eqb-false x 1 e))
 
--- a code below 8, or no data, tells the length
-length-code : (remote : Bool) (code : ℕ) → (remote ≡ true → code ≡ 0) → cond remote 0 (min code 8) < 8 → code ≡ cond remote 0 (min code 8)
-length-code false code empty h = omega arith
-length-code true code empty h = empty refl
+-- of a data frame a code below 8 tells the length
+length-code : (remote : Bool) (code : ℕ) → remote ≡ false → cond remote 0 (min code 8) < 8 → code ≡ cond remote 0 (min code 8)
+length-code false code d h = omega arith
+length-code true code d h = absurd (true≢false d)
 
 length-full : (remote : Bool) (code : ℕ) → cond remote 0 (min code 8) ≡ 8 → 8 ≤ code
 length-full false code h = omega arith
 length-full true code h = omega arith
 
-module _ (b : List ℕ) (long : length b ≡ 13) (small : Bytes b) (clean : Clean b) where
+module _ (most : ℕ) (b : List ℕ) (long : length b ≡ 13) (small : Bytes b) (clean : Clean most b) where
   head : infoByte (extendedOf b) (remoteOf b) (ownOf b) (codeOf b) ≡ getD b 0 0
   head =
       let n : ℕ = getD b 0 0 in
@@ -97,19 +91,18 @@ module _ (b : List ℕ) (long : length b ≡ 13) (small : Bytes b) (clean : Clea
   unfolding dataOf
   data-length = length-take-le (dataLengthOf b) (drop (dataOffsetOf b) b) (simp length-drop (omega (arith, used-bound b)))
 
-  accepts : judged (frameOf b) ≡ gives 13
+  clean-good : Good most (frameOf b)
   unfolding dataLengthOf
-  accepts =
-      rw data-length
-      (good-judged (extendedOf b) (idOf b) (remoteOf b) (codeOf b) (dataLengthOf b)
-      (record {
+  clean-good =
+      record {
         within = id-within (extendedOf b) b small;
-        short = data-bound b;
-        empty = λ r. rw r;
-        coded = omega arith;
-        equal = length-code (remoteOf b) (codeOf b) (clean .remote-code);
-        full = length-full (remoteOf b) (codeOf b);
-      }))
+        short = rw data-length (data-bound b);
+        coded = omega (arith, small 0);
+        empty = λ r. data-length ∙ rw r;
+        request = clean .remote-code;
+        equal = λ d. rw data-length (length-code (remoteOf b) (codeOf b) d);
+        full = λ d. rw data-length (length-full (remoteOf b) (codeOf b));
+      }
 
   behind : dataOf b ++ replicate (13 - (dataOffsetOf b + length (dataOf b))) 0 ≡ drop (dataOffsetOf b) b
   unfolding dataOf
@@ -127,6 +120,5 @@ module _ (b : List ℕ) (long : length b ≡ 13) (small : Bytes b) (clean : Clea
   unfolding bufferOf
   whole = rw (head, ids, behind) front
 
-  pub made-again : buildOf (frameOf b) ≡ (gives 13, b)
-  unfolding buildOf
-  made-again = rw (accepts, whole)
+  pub made-again : buildBy most (frameOf b) ≡ (gives 13, b)
+  made-again = accepted-build most (frameOf b) clean-good ∙ ap (λ (l : List ℕ). (gives 13, l)) whole

@@ -1,14 +1,16 @@
 // Frames built: the 13-byte buffer made from what a frame says, or the refusal that is due.
 ghost use mathlib.Core.Path.{_≡_};
 ghost use mathlib.Core.Bool.{true, false};
-ghost use mathlib.Core.List.{[]};
-ghost use Prim.Native.Nat.{_≤_, _<_};
+ghost use mathlib.Core.List.{[], _∷_};
+ghost use Prim.Native.Nat.{_%_, _≤_, _<_};
+ghost use lib.Dec.{ltb};
 ghost use lib.ListN.{length};
 ghost use Rattle.laws.specs.Laid.{laid};
+ghost use Rattle.laws.specs.Said.{refuses};
 ghost use Rattle.identifiers.specs.Limits.{limitOf, isExtended, rawOf};
 ghost use Rattle.frame_info.specs.Info.{dataStart};
 ghost use Rattle.frame_building.specs.Buffer.{infoByte, bufferOf};
-ghost use Rattle.frame_building.specs.Building.{invalidLength, nonCompliant, judgeOf, buildOf, buildingSaid, builtSaid, asked, askedData};
+ghost use Rattle.frame_building.specs.Building.{nonCompliant, lengthAndCode, judgeBy, buildOf, mostOf, buildIn, buildingSaid, builtSaid, asked, askedData};
 use identifiers::Id;
 use octets::one_bit;
 use refusals::Refusal;
@@ -24,16 +26,21 @@ pub struct Built {
     pub frame: [u8; 13],
 }
 
-fn invalid_data_length(remote: bool, length: usize) -> bool
-    ensures { λ r. ⌜ r ≡ invalidLength remote length ⌝ }
+// The ways of building: the Rust's, where a remote frame has code 0, and that of ISO 11898-1, where its code is the
+// length that it asks for, 0 to 8.
+pub enum Way {
+    Rust,
+    Iso,
+}
+
+// The largest code that a remote frame may have.
+fn most(way: Way) -> usize
+    ensures { λ r. ⌜ r ≡ mostOf way ⌝ }
 {
-    if length > 8 {
-        return true;
+    match way {
+        Way::Rust => 0,
+        Way::Iso => 8,
     }
-    if remote {
-        return length > 0;
-    }
-    false
 }
 
 fn non_compliant_dlc(dlc: usize, length: usize) -> bool
@@ -51,19 +58,54 @@ fn non_compliant_dlc(dlc: usize, length: usize) -> bool
     false
 }
 
-fn judge(id: Id, remote: bool, dlc: usize, length: usize) -> Building
-    ensures { λ r. ⌜ buildingSaid r ≡ judgeOf (isExtended id) (rawOf id) remote dlc length ⌝ }
+fn refuse_length(length: usize) -> Building
+    ensures { λ r. ⌜ buildingSaid r ≡ refuses 2 ((length % 256) ∷ []) ⌝ }
+{
+    Building::Refused(Refusal::InvalidDataLength((length % 256) as u8))
+}
+
+fn refuse_code(dlc: usize) -> Building
+    ensures { λ r. ⌜ buildingSaid r ≡ refuses 3 ((dlc % 256) ∷ []) ⌝ }
+{
+    Building::Refused(Refusal::NonCompliantDlc((dlc % 256) as u8))
+}
+
+fn judge_remote(most: usize, dlc: usize, length: usize) -> Building
+    ensures { λ r. ⌜ buildingSaid r ≡ lengthAndCode (ltb most dlc) true dlc length ⌝ }
+{
+    let has_data = length > 0;
+    if has_data {
+        return refuse_length(length);
+    }
+    if dlc > most {
+        return refuse_code(dlc);
+    }
+    Building::Made
+}
+
+fn judge_data(dlc: usize, length: usize) -> Building
+    ensures { λ r. ⌜ buildingSaid r ≡ lengthAndCode (nonCompliant dlc length) false dlc length ⌝ }
+{
+    if length > 8 {
+        return refuse_length(length);
+    }
+    if non_compliant_dlc(dlc, length) {
+        return refuse_code(dlc);
+    }
+    Building::Made
+}
+
+// By the largest code that a remote frame may have.
+fn judge(most: usize, id: Id, remote: bool, dlc: usize, length: usize) -> Building
+    ensures { λ r. ⌜ buildingSaid r ≡ judgeBy most (isExtended id) (rawOf id) remote dlc length ⌝ }
 {
     if !id.within_limit() {
         return Building::Refused(Refusal::IdentifierAboveLimit);
     }
-    if invalid_data_length(remote, length) {
-        return Building::Refused(Refusal::InvalidDataLength((length % 256) as u8));
+    if remote {
+        return judge_remote(most, dlc, length);
     }
-    if non_compliant_dlc(dlc, length) {
-        return Building::Refused(Refusal::NonCompliantDlc((dlc % 256) as u8));
-    }
-    Building::Made
+    judge_data(dlc, length)
 }
 
 fn info(extended: bool, remote: bool, own: bool, code: u8) -> u8
@@ -144,20 +186,14 @@ fn with_data(frame: [u8; 13], start: usize, data: &[u8]) -> [u8; 13]
     filled
 }
 
-pub fn new_from_parameters(
-    id: Id,
-    remote_request: bool,
-    self_reception: bool,
-    dlc: usize,
-    data: &[u8],
-) -> Built
-    ensures { λ r. ⌜ builtSaid r ≡ buildOf (asked id «remote_request» «self_reception» dlc (now («data» .entry))) ⌝ }
+pub fn build(way: Way, id: Id, remote: bool, own: bool, dlc: usize, data: &[u8]) -> Built
+    ensures { λ r. ⌜ builtSaid r ≡ buildIn way (asked id remote own dlc (now («data» .entry))) ⌝ }
 {
-    match judge(id, remote_request, dlc, data.len()) {
+    match judge(most(way), id, remote, dlc, data.len()) {
         Building::Made => Built {
             answer: Building::Made,
             frame: with_data(
-                front(id, remote_request, self_reception, (dlc % 16) as u8),
+                front(id, remote, own, (dlc % 16) as u8),
                 data_start(id),
                 data,
             ),
@@ -167,6 +203,31 @@ pub fn new_from_parameters(
             frame: [0; 13],
         },
     }
+}
+
+pub fn new_from_parameters(
+    id: Id,
+    remote_request: bool,
+    self_reception: bool,
+    dlc: usize,
+    data: &[u8],
+) -> Built
+    ensures { λ r. ⌜ builtSaid r ≡ buildOf (asked id «remote_request» «self_reception» dlc (now («data» .entry))) ⌝ }
+{
+    build(Way::Rust, id, remote_request, self_reception, dlc, data)
+}
+
+// A remote frame may ask for a length, as in ISO 11898-1.
+pub fn new_with_remote_length(
+    id: Id,
+    remote_request: bool,
+    self_reception: bool,
+    dlc: usize,
+    data: &[u8],
+) -> Built
+    ensures { λ r. ⌜ builtSaid r ≡ buildIn Way.Iso (asked id «remote_request» «self_reception» dlc (now («data» .entry))) ⌝ }
+{
+    build(Way::Iso, id, remote_request, self_reception, dlc, data)
 }
 
 pub fn new(id: Id, data: &[u8]) -> Built
