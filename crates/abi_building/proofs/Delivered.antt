@@ -16,13 +16,15 @@ use Rattle.identifiers.specs.declared.Id.{Id}
 use Rattle.identifiers.specs.Limits.{limitOf, isExtended, rawOf}
 use Rattle.identifiers.specs.declared.Id.the-variants.{Standard, Extended}
 use Rattle.frame_reading.specs.Buffer.{Frame}
-use Rattle.frame_building.specs.Building.{judgeOf, buildOf, asked}
+use Rattle.frame_building.specs.Building.{inOrder, nonCompliantBy, judgeBy, buildBy, mostOf, buildIn, asked}
+use Rattle.frame_building.specs.declared.Way.{Way}
+use Rattle.frame_building.proofs.Judged.{way-built}
 use Rattle.abi_building.specs.Building.{idFrom, plain}
 use Rattle.abi_building.specs.declared.IdMade.the-variants.{Made, Refused}
 
-above : (format : Bool) (id : ℕ) (remote : Bool) (code length : ℕ) → limitOf format < id → judgeOf format id remote code length ≡ refuses 1 []
-unfolding judgeOf
-above format id remote code length h = rw (lt-leb id (limitOf format) h)
+above : (wrongCode format : Bool) (id : ℕ) (remote : Bool) (code length : ℕ) → limitOf format < id
+    → inOrder wrongCode format id remote code length ≡ refuses 1 []
+above wrongCode format id remote code length h = rw (lt-leb id (limitOf format) h)
 
 -- an identifier that was made is the format and the number
 pub made-id : (extended : Bool) (id : ℕ) (i : Id) → idFrom extended id ≡ Made i → (isExtended i ≡ extended) × (rawOf i ≡ id)
@@ -40,23 +42,25 @@ made-id false id i e = by (leb id 0xFFFF) e
 
 -- where none was made, building owes the same refusal
 pub no-id : (extended : Bool) (id : ℕ) (r : Refusal) → idFrom extended id ≡ Refused r
-    → (remote : Bool) (code length : ℕ) → judgeOf extended id remote code length ≡ refusalSaid r
-no-id true id r e remote code length = absurd (let z : _≡_ {A = ℕ} 0 1 = cc in omega arith)
-no-id false id r e remote code length = by (leb id 0xFFFF) refl e
+    → (wrongCode remote : Bool) (code length : ℕ) → inOrder wrongCode extended id remote code length ≡ refusalSaid r
+no-id true id r e wrongCode remote code length = absurd (let z : _≡_ {A = ℕ} 0 1 = cc in omega arith)
+no-id false id r e wrongCode remote code length = by (leb id 0xFFFF) refl e
   where
     by : (fits : Bool) → leb id 0xFFFF ≡ fits → cond fits (Made (Standard (record { 0 = id }))) (Refused IdentifierAboveLimit) ≡ Refused r
-        → judgeOf false id remote code length ≡ refusalSaid r
+        → inOrder wrongCode false id remote code length ≡ refusalSaid r
     by true small e = absurd (let z : _≡_ {A = ℕ} 0 1 = cc in omega arith)
     by false large e =
         let same : IdentifierAboveLimit ≡ r = cc in
-        above false id remote code length (omega (arith, leb-false id 0xFFFF large)) ∙ ap refusalSaid same
+        above wrongCode false id remote code length (omega (arith, leb-false id 0xFFFF large)) ∙ ap refusalSaid same
 
 -- the frame that is asked for by an identifier that was made
 pub asked-plain : (extended : Bool) (id : ℕ) (i : Id) → idFrom extended id ≡ Made i → (remote own : Bool) (code : ℕ) (payload : List ℕ)
     → asked i remote own code payload ≡ plain extended id remote own code payload
 asked-plain extended id i e remote own code payload = rw (made-id extended id i e .0, made-id extended id i e .1)
 
--- and what building owes where none was
-pub none-built : (f : Frame) (r : Refusal) → idFrom (f .extended) (f .id) ≡ Refused r → buildOf f ≡ (refusalSaid r, replicate 13 0)
-unfolding buildOf
-none-built f r e = rw (no-id (f .extended) (f .id) r e (f .remote) (f .code) (length (f .payload)))
+-- and what building owes where none was, in either way
+pub none-built : (way : Way) (f : Frame) (r : Refusal) → idFrom (f .extended) (f .id) ≡ Refused r → buildIn way f ≡ (refusalSaid r, replicate 13 0)
+unfolding judgeBy buildBy
+none-built way f r e =
+    let wrong = nonCompliantBy (mostOf way) (f .remote) (f .code) (length (f .payload)) in
+    rw (way-built way f, no-id (f .extended) (f .id) r e wrong (f .remote) (f .code) (length (f .payload)))

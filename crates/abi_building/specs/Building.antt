@@ -9,7 +9,9 @@ use Rattle.laws.specs.Said.{Said}
 use Rattle.refusals.specs.declared.Refusal.the-variants.{IdentifierAboveLimit}
 use Rattle.identifiers.specs.declared.Id.the-variants.{Standard, Extended}
 use Rattle.frame_reading.specs.Buffer.{Frame}
-use Rattle.frame_building.specs.Building.{buildOf}
+use Rattle.frame_building.specs.Building.{buildIn}
+use Rattle.frame_building.specs.declared.Way.{Way}
+use Rattle.frame_building.specs.declared.Way.the-variants.{Rust}
 use Rattle.abi_answers.specs.Answers.{delivering, deliveryLeaves}
 use Rattle.abi_building.specs.declared.IdMade.{IdMade}
 use Rattle.abi_building.specs.declared.IdMade.the-variants.{Made, Refused}
@@ -26,9 +28,16 @@ plain extended id remote own code payload =
 abbrev pub plainData : Bool → ℕ → Bool → List ℕ → Frame
 plainData extended id own payload = plain extended id false own (length payload) payload
 
--- building into a lent frame, whose place among the arguments is given
+-- building, in a way, into a lent frame, whose place among the arguments is given
+abbrev pub buildingIn : Way → ℕ → List ℕ → Frame → Said ℕ
+buildingIn way argument frame f = delivering 13 argument frame (buildIn way f)
+
+abbrev pub buildingInLeaves : Way → ℕ → List ℕ → Frame → List ℕ
+buildingInLeaves way argument frame f = deliveryLeaves 13 argument frame (buildIn way f)
+
+-- in the Rust's way
 abbrev pub building : ℕ → List ℕ → Frame → Said ℕ
-building argument frame f = delivering 13 argument frame (buildOf f)
+building = buildingIn Rust
 
 abbrev pub buildingLeaves : ℕ → List ℕ → Frame → List ℕ
-buildingLeaves argument frame f = deliveryLeaves 13 argument frame (buildOf f)
+buildingLeaves = buildingInLeaves Rust

@@ -2,12 +2,14 @@
 ghost use mathlib.Core.Path.{_≡_};
 ghost use mathlib.Core.Bool.{true, false};
 ghost use Rattle.frame_building.specs.Building.{builtSaid};
+ghost use Rattle.frame_building.specs.declared.Way.the-variants.{Iso};
 ghost use Rattle.abi_answers.specs.Answers.{answerOf, delivering, deliveryLeaves};
-ghost use Rattle.abi_building.specs.Building.{idFrom, plain, plainData, building, buildingLeaves};
+ghost use Rattle.abi_building.specs.Building.{idFrom, plain, plainData, buildingIn, buildingInLeaves, building, buildingLeaves};
 use abi_answers::Answer;
 use abi_answers::Delivery;
 use frame_building::Building;
 use frame_building::Built;
+use frame_building::Way;
 use identifiers::ExtendedId;
 use identifiers::Id;
 use identifiers::StandardId;
@@ -48,6 +50,7 @@ fn deliver(built: Built, argument: usize, frame: &mut [u8]) -> Answer
 
 // What is built of plain numbers, into a lent frame, the argument of this number.
 fn build(
+    way: Way,
     extended: bool,
     id: u32,
     remote: bool,
@@ -57,15 +60,15 @@ fn build(
     argument: usize,
     frame: &mut [u8],
 ) -> Answer
-    ensures { λ r. ⌜ r ≡ answerOf (building argument (now (frame .entry)) (plain extended id remote own dlc (now («data» .entry)))) ⌝ }
-    ensures { λ _. ⌜ now (frame .exit) ≡ buildingLeaves argument (now (frame .entry)) (plain extended id remote own dlc (now («data» .entry))) ⌝ }
+    ensures { λ r. ⌜ r ≡ answerOf (buildingIn way argument (now (frame .entry)) (plain extended id remote own dlc (now («data» .entry)))) ⌝ }
+    ensures { λ _. ⌜ now (frame .exit) ≡ buildingInLeaves way argument (now (frame .entry)) (plain extended id remote own dlc (now («data» .entry))) ⌝ }
 {
     if frame.len() != 13 {
         return abi_answers::wrong_length(argument);
     }
     match id_of(extended, id) {
         IdMade::Made(id) => deliver(
-            frame_building::new_from_parameters(id, remote, own, dlc, data),
+            frame_building::build(way, id, remote, own, dlc, data),
             argument,
             frame,
         ),
@@ -86,7 +89,23 @@ pub extern "C" fn chherbolat_new_from_parameters(
     ensures { λ r. ⌜ r ≡ answerOf (building 6 (now (frame .entry)) (plain extended id remote own dlc (now («data» .entry)))) ⌝ }
     ensures { λ _. ⌜ now (frame .exit) ≡ buildingLeaves 6 (now (frame .entry)) (plain extended id remote own dlc (now («data» .entry))) ⌝ }
 {
-    build(extended, id, remote, own, dlc, data, 6, frame)
+    build(Way::Rust, extended, id, remote, own, dlc, data, 6, frame)
+}
+
+#[no_mangle]
+pub extern "C" fn chherbolat_new_with_remote_length(
+    extended: bool,
+    id: u32,
+    remote: bool,
+    own: bool,
+    dlc: usize,
+    data: &[u8],
+    frame: &mut [u8],
+) -> Answer
+    ensures { λ r. ⌜ r ≡ answerOf (buildingIn Iso 6 (now (frame .entry)) (plain extended id remote own dlc (now («data» .entry)))) ⌝ }
+    ensures { λ _. ⌜ now (frame .exit) ≡ buildingInLeaves Iso 6 (now (frame .entry)) (plain extended id remote own dlc (now («data» .entry))) ⌝ }
+{
+    build(Way::Iso, extended, id, remote, own, dlc, data, 6, frame)
 }
 
 #[no_mangle]
@@ -94,7 +113,8 @@ pub extern "C" fn chherbolat_new(extended: bool, id: u32, data: &[u8], frame: &m
     ensures { λ r. ⌜ r ≡ answerOf (building 3 (now (frame .entry)) (plainData extended id false (now («data» .entry)))) ⌝ }
     ensures { λ _. ⌜ now (frame .exit) ≡ buildingLeaves 3 (now (frame .entry)) (plainData extended id false (now («data» .entry))) ⌝ }
 {
-    build(extended, id, false, false, data.len(), data, 3, frame)
+    let dlc = data.len();
+    build(Way::Rust, extended, id, false, false, dlc, data, 3, frame)
 }
 
 #[no_mangle]
@@ -107,5 +127,6 @@ pub extern "C" fn chherbolat_new_self_reception(
     ensures { λ r. ⌜ r ≡ answerOf (building 3 (now (frame .entry)) (plainData extended id true (now («data» .entry)))) ⌝ }
     ensures { λ _. ⌜ now (frame .exit) ≡ buildingLeaves 3 (now (frame .entry)) (plainData extended id true (now («data» .entry))) ⌝ }
 {
-    build(extended, id, false, true, data.len(), data, 3, frame)
+    let dlc = data.len();
+    build(Way::Rust, extended, id, false, true, dlc, data, 3, frame)
 }

@@ -6,7 +6,7 @@ use mathlib.Core.List.{List}
 use borrow.Author.Needs.{needs}
 use Rattle.laws.specs.Said.{Said}
 use Rattle.laws.specs.Laid.{written}
-use Rattle.frame_building.specs.Building.{buildOf}
+use Rattle.frame_building.specs.Building.{buildIn}
 use Rattle.abi_answers.specs.Answers.{answerOf, delivering, deliveryLeaves}
 use Rattle.abi_answers.proofs.Whole.{sized-no, delivered}
 use Rattle.abi_building.specs.Building.{plain}
@@ -27,8 +27,8 @@ id-of-requires c κs = search needs
 enum-known-id : tie.Need-enum-known-id
 enum-known-id c = search needs
 
-new-from-parameters-requires : tie.Need-new-from-parameters-requires
-new-from-parameters-requires c κs = search needs
+build-requires : tie.Need-build-requires
+build-requires c κs = search needs
 
 deliver-requires : tie.Need-deliver-requires
 deliver-requires c κs = search needs
@@ -51,7 +51,7 @@ returns-2 c =
     let payload = args .«data» .now in
     let made = sym (named .id-of .ensures) ∙ told .id .given .1 in
     let asked-for = asked-plain (args .extended) (args .id) _ made (args .remote) (args .own) (args .dlc) payload in
-    let built = delivered .before .before .new-from-parameters .ensures ∙ ap buildOf asked-for in (
+    let built = delivered .before .before .build .ensures ∙ ap (buildIn (args .way)) asked-for in (
       delivered .deliver .ensures .0 ∙ ap (λ (a : Said ℕ × List ℕ). answerOf (delivering 13 (args .argument) (args .frame .now) a)) built,
       delivered .deliver .ensures .1 ∙ ap (λ (a : Said ℕ × List ℕ). deliveryLeaves 13 (args .argument) (args .frame .now) a) built,
     )
@@ -62,7 +62,7 @@ returns-3 c =
     let named = c .before .before .before .before in
     let args = named .before .before .before .before .args in
     let f = plain (args .extended) (args .id) (args .remote) (args .own) (args .dlc) (args .«data» .now) in
-    let none = none-built f _ (sym (named .id-of .ensures) ∙ c .before .before .refusal .given .1) in
+    let none = none-built (args .way) f _ (sym (named .id-of .ensures) ∙ c .before .before .refusal .given .1) in
     let both = delivered 13 (args .argument) (args .frame .now) _ _ (named .before .if1 .left) (sym none) in
     (c .refused .ensures ∙ both .0, both .1)
 
@@ -74,7 +74,7 @@ build-spec =
     returns
     id-of-requires
     enum-known-id
-    new-from-parameters-requires
+    build-requires
     deliver-requires
     enum-known-refusal
     refused-requires
