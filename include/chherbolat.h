@@ -123,6 +123,10 @@ chherbolat_answer chherbolat_extended_id_standard_id(uint32_t raw);
 chherbolat_answer chherbolat_new_from_parameters(bool extended, uint32_t id, bool remote_request, bool self_reception,
                                                  size_t dlc, const uint8_t *data, size_t data_length, uint8_t *frame,
                                                  size_t frame_length);
+/* The same by ISO 11898-1: a remote frame may have a code, 0 to 8, which asks for that many bytes. */
+chherbolat_answer chherbolat_new_with_remote_length(bool extended, uint32_t id, bool remote_request,
+                                                    bool self_reception, size_t dlc, const uint8_t *data,
+                                                    size_t data_length, uint8_t *frame, size_t frame_length);
 /* Gives 13, and the buffer of a data frame in frame. Refuses 14, 1, then 2 for data longer than 8. */
 chherbolat_answer chherbolat_new(bool extended, uint32_t id, const uint8_t *data, size_t data_length, uint8_t *frame,
                                  size_t frame_length);

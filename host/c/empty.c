@@ -11,6 +11,10 @@ static void building(void)
     wrote("data", bytes("00 FF E0 00*10"));
     refuses("frame", chherbolat_new_from_parameters(false, 0x7FF, false, false, 1, FILTER, 1, NULL, 0), WRONG_LENGTH,
             6);
+    gives("data", chherbolat_new_with_remote_length(false, 0x7FF, true, false, 8, NULL, 0, lent(), FRAME), FRAME);
+    wrote("data", bytes("48 FF E0 00*10"));
+    refuses("frame", chherbolat_new_with_remote_length(false, 0x7FF, false, false, 1, FILTER, 1, NULL, 0),
+            WRONG_LENGTH, 6);
     gives("data", chherbolat_new(false, 0x7FF, NULL, 0, lent(), FRAME), FRAME);
     wrote("data", bytes("00 FF E0 00*10"));
     refuses("frame", chherbolat_new(false, 0x7FF, FILTER, 1, NULL, 0), WRONG_LENGTH, 3);

@@ -18,6 +18,28 @@ static chherbolat_answer coded(bool remote_request, size_t dlc, size_t data_leng
     return chherbolat_new_from_parameters(false, 0x7FF, remote_request, false, dlc, data, data_length, lent(), FRAME);
 }
 
+/* Standard 0x123, remote. */
+static chherbolat_answer asking(size_t dlc, size_t data_length)
+{
+    static const uint8_t data[1] = {0xAB};
+    return chherbolat_new_with_remote_length(false, 0x123, true, false, dlc, data, data_length, lent(), FRAME);
+}
+
+static void asking_for_a_length(void)
+{
+    gives("| build, remote, code 8 |", asking(8, 0), FRAME);
+    wrote("remote, code 8", bytes("48 24 60 00*10"));
+    gives("remote, code 8, its code", chherbolat_data_length_code(lent_bytes, FRAME), 8);
+    gives("remote, code 8, its data", chherbolat_data_length(lent_bytes, FRAME), 0);
+    refuses("| build, remote, code 9 |", asking(9, 0), NON_COMPLIANT_DLC, 9);
+    wrote_nothing("remote, code 9");
+    refuses("| build, remote, code 9, one byte |", asking(9, 1), INVALID_DATA_LENGTH, 1);
+    wrote_nothing("remote, code 9, one byte");
+    refuses("| build in the old way, remote, code 1 |",
+            chherbolat_new_from_parameters(false, 0x123, true, false, 1, NULL, 0, lent(), FRAME), NON_COMPLIANT_DLC, 1);
+    wrote_nothing("remote, code 1, in the old way");
+}
+
 static void building(void)
 {
     run one = bytes("AB");
@@ -264,6 +286,7 @@ int main(void)
 {
     identifiers();
     building();
+    asking_for_a_length();
     reading();
     filters_by_patterns();
     filters_by_code_and_mask();

@@ -27,21 +27,18 @@ impl Frame {
         dlc: usize,
         data: &[u8],
     ) -> Result<Self> {
-        let (extended, id) = as_asked(id.into());
-        let (bytes, length) = (data.as_ptr(), data.len());
-        built(|frame| unsafe {
-            raw::chherbolat_new_from_parameters(
-                extended,
-                id,
-                remote_request,
-                self_reception,
-                dlc,
-                bytes,
-                length,
-                frame,
-                FRAME_LENGTH,
-            )
-        })
+        by(raw::chherbolat_new_from_parameters, id.into(), remote_request, self_reception, dlc, data)
+    }
+
+    /// By ISO 11898-1: a remote frame may have a code, 0 to 8, which asks for that many bytes.
+    pub fn new_with_remote_length(
+        id: impl Into<Id>,
+        remote_request: bool,
+        self_reception: bool,
+        dlc: usize,
+        data: &[u8],
+    ) -> Result<Self> {
+        by(raw::chherbolat_new_with_remote_length, id.into(), remote_request, self_reception, dlc, data)
     }
 
     /// Any 13 bytes are the buffer of a frame.
@@ -98,6 +95,16 @@ impl Frame {
     fn read(&self, reader: unsafe extern "C" fn(*const u8, usize) -> Answer) -> u64 {
         not_refused(unsafe { reader(self.0.as_ptr(), FRAME_LENGTH) })
     }
+}
+
+type BuildBy = unsafe extern "C" fn(bool, u32, bool, bool, usize, *const u8, usize, *mut u8, usize) -> Answer;
+
+fn by(build: BuildBy, id: Id, remote_request: bool, self_reception: bool, dlc: usize, data: &[u8]) -> Result<Frame> {
+    let (extended, id) = as_asked(id);
+    let (bytes, length) = (data.as_ptr(), data.len());
+    built(|frame| unsafe {
+        build(extended, id, remote_request, self_reception, dlc, bytes, length, frame, FRAME_LENGTH)
+    })
 }
 
 fn as_asked(id: Id) -> (bool, u32) {

@@ -22,6 +22,17 @@ unsafe extern "C" {
         frame: *mut u8,
         frame_length: usize,
     ) -> Answer;
+    pub fn chherbolat_new_with_remote_length(
+        extended: bool,
+        id: u32,
+        remote_request: bool,
+        self_reception: bool,
+        dlc: usize,
+        data: *const u8,
+        data_length: usize,
+        frame: *mut u8,
+        frame_length: usize,
+    ) -> Answer;
     pub fn chherbolat_new(
         extended: bool,
         id: u32,

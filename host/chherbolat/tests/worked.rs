@@ -28,6 +28,9 @@ fn frames_built_and_read() {
     assert_eq!(frame.bytes()[..3], [0x00, 0xFF, 0xE0]);
     assert_eq!(refused(Frame::new(standard(0x7FF), &[0; 9])), (2, 9));
     assert_eq!(refused(Frame::new_from_parameters(standard(0x7FF), true, false, 1, &[])), (3, 1));
+    let asking = Frame::new_with_remote_length(standard(0x123), true, false, 8, &[]).unwrap();
+    assert_eq!(asking.as_slice(), [0x48, 0x24, 0x60]);
+    assert_eq!(refused(Frame::new_with_remote_length(standard(0x123), true, false, 9, &[])), (3, 9));
     let own = Frame::new_self_reception(standard(0x124), &[0xAB]).unwrap();
     assert_eq!(own.as_slice(), [0x11, 0x24, 0x80, 0xAB]);
     assert_eq!((own.data(), own.identifier()), (&[0xAB][..], Id::Standard(standard(0x124))));

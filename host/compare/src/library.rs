@@ -12,6 +12,7 @@ pub const LIBRARY: Face = Face {
     extended_id_new: chherbolat_extended_id_new,
     extended_id_standard_id: chherbolat_extended_id_standard_id,
     new_from_parameters: chherbolat_new_from_parameters,
+    new_with_remote_length: chherbolat_new_with_remote_length,
     new: chherbolat_new,
     new_self_reception: chherbolat_new_self_reception,
     is_extended_format: chherbolat_is_extended_format,

@@ -28,9 +28,32 @@ pub struct Build {
 
 #[derive(Debug, Clone, Copy, PartialEq, Eq)]
 pub enum Constructor {
-    NewFromParameters { remote_request: bool, self_reception: bool, dlc: usize },
+    NewFromParameters {
+        remote_request: bool,
+        self_reception: bool,
+        dlc: usize,
+    },
+    /// The second way of building, which the driver lacks.
+    NewWithRemoteLength {
+        remote_request: bool,
+        self_reception: bool,
+        dlc: usize,
+    },
     New,
     NewSelfReception,
+}
+
+impl Build {
+    /// The same, asked for in the second way of building; none for the constructors that have no code to ask for.
+    pub fn with_remote_length(&self) -> Option<Self> {
+        match self.constructor {
+            Constructor::NewFromParameters { remote_request, self_reception, dlc } => {
+                let constructor = Constructor::NewWithRemoteLength { remote_request, self_reception, dlc };
+                Some(Build { constructor, ..self.clone() })
+            }
+            _ => None,
+        }
+    }
 }
 
 /// Every reader, of one frame.

@@ -62,6 +62,8 @@ pub fn all(count: u64, compilers: &[&Filters], visit: &mut impl FnMut(Case)) {
     identifiers(count, visit);
     builds_at_limits(visit);
     random_builds(count, &mut Random::from_seed(1), visit);
+    remote_lengths_at_limits(visit);
+    random_remote_lengths(count, visit);
     reads(count, visit);
     frames_of_wrong_length(visit);
     outputs_of_every_length(visit);
@@ -191,6 +193,38 @@ fn random_builds(count: u64, random: &mut Random, visit: &mut impl FnMut(Case)) 
     }
 }
 
+/// In the second way of building: every length with every code, remote or not, at a few identifiers.
+fn remote_lengths_at_limits(visit: &mut impl FnMut(Case)) {
+    let random = &mut Random::from_seed(8);
+    for extended in [false, true] {
+        for id in [0, 0x123, 0x7FF, 0x800, 0x1FFF_FFFF, 0x2000_0000] {
+            for length in data_lengths() {
+                for dlc in codes() {
+                    for (remote_request, self_reception) in FLAGS {
+                        let constructor = Constructor::NewWithRemoteLength { remote_request, self_reception, dlc };
+                        visit(build(constructor, extended, id, random.bytes(length)));
+                    }
+                }
+            }
+        }
+    }
+}
+
+/// Half of them remote, most of these without data and with a code about the limit.
+fn random_remote_lengths(count: u64, visit: &mut impl FnMut(Case)) {
+    let random = &mut Random::from_seed(9);
+    for _ in 0..count {
+        let extended = random.one_in(2);
+        let id = random_identifier(extended, random);
+        let remote_request = random.one_in(2);
+        let length = if remote_request && !random.one_in(8) { 0 } else { random.below(9) as usize };
+        let dlc = if remote_request { random.below(12) as usize } else { random_code(length, random) };
+        let self_reception = random.one_in(2);
+        let constructor = Constructor::NewWithRemoteLength { remote_request, self_reception, dlc };
+        visit(build(constructor, extended, id, random.bytes(length)));
+    }
+}
+
 fn reads(count: u64, visit: &mut impl FnMut(Case)) {
     let random = &mut Random::from_seed(5);
     for turn in 0..count {
@@ -208,6 +242,10 @@ fn frames_of_wrong_length(visit: &mut impl FnMut(Case)) {
                 let (extended, data) = (random.one_in(2), random.bytes(length));
                 visit(Case::Build(Build { constructor, extended, id, data, room: wrong }));
             }
+        }
+        for (id, remote_request, dlc) in [(5, true, 8), (u32::MAX, true, 8), (5, true, 9), (5, false, 0)] {
+            let constructor = Constructor::NewWithRemoteLength { remote_request, self_reception: false, dlc };
+            visit(Case::Build(Build { constructor, extended: false, id, data: Vec::new(), room: wrong }));
         }
         for room in 0..=OUT_LENGTH {
             visit(Case::Read(Read { frame: random.bytes(wrong), room }));

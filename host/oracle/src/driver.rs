@@ -1,6 +1,6 @@
 //! The driver's side of the face. What the driver has no counterpart for is added by the rules of docs/ABI.md:
-//! the refusals 14 and 6, refusal 1 where a constructor answers `None`, the number of a refused `new`, the matcher, and
-//! what is done with frame files.
+//! the refusals 14 and 6, refusal 1 where a constructor answers `None`, the number of a refused `new`, the second way of
+//! building, the matcher, and what is done with frame files.
 use std::slice;
 
 use original::twai::{EspTwaiError, EspTwaiFrame, ExtendedId, Id, StandardId, probe};
@@ -16,12 +16,14 @@ mod decisions;
 mod files;
 pub mod filters;
 mod matcher;
+mod remote_length;
 
 pub const DRIVER: Face = Face {
     standard_id_new,
     extended_id_new,
     extended_id_standard_id,
     new_from_parameters,
+    new_with_remote_length: remote_length::new_with_remote_length,
     new,
     new_self_reception,
     is_extended_format,

@@ -6,6 +6,17 @@ pub mod filters;
 
 pub const FRAME_LENGTH: usize = 13;
 
+type FullConstructor = unsafe extern "C" fn(
+    extended: bool,
+    id: u32,
+    remote_request: bool,
+    self_reception: bool,
+    dlc: usize,
+    data: *const u8,
+    data_length: usize,
+    frame: *mut u8,
+    frame_length: usize,
+) -> Answer;
 type Constructor = unsafe extern "C" fn(
     extended: bool,
     id: u32,
@@ -21,17 +32,8 @@ pub struct Face {
     pub standard_id_new: unsafe extern "C" fn(raw: u16) -> Answer,
     pub extended_id_new: unsafe extern "C" fn(raw: u32) -> Answer,
     pub extended_id_standard_id: unsafe extern "C" fn(raw: u32) -> Answer,
-    pub new_from_parameters: unsafe extern "C" fn(
-        extended: bool,
-        id: u32,
-        remote_request: bool,
-        self_reception: bool,
-        dlc: usize,
-        data: *const u8,
-        data_length: usize,
-        frame: *mut u8,
-        frame_length: usize,
-    ) -> Answer,
+    pub new_from_parameters: FullConstructor,
+    pub new_with_remote_length: FullConstructor,
     pub new: Constructor,
     pub new_self_reception: Constructor,
     pub is_extended_format: Reader,

@@ -104,6 +104,10 @@ impl Lending {
                     let function = face.new_from_parameters;
                     function(extended, id, remote_request, self_reception, dlc, start, length, frame, room)
                 },
+                Constructor::NewWithRemoteLength { remote_request, self_reception, dlc } => unsafe {
+                    let function = face.new_with_remote_length;
+                    function(extended, id, remote_request, self_reception, dlc, start, length, frame, room)
+                },
                 Constructor::New => unsafe { (face.new)(extended, id, start, length, frame, room) },
                 Constructor::NewSelfReception => unsafe {
                     (face.new_self_reception)(extended, id, start, length, frame, room)

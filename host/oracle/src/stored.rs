@@ -32,13 +32,13 @@ pub const LEGEND: &str = "\
 #   where the controller is error-passive, FLIGHT where the frame is in flight before the poll; 0 where not asked for
 ";
 
-/// The line for a case and what came of it; none for an outcome of another kind than the case.
+/// The line for a case and what came of it; none for an outcome of another kind than the case, or for what the driver lacks.
 pub fn line(case: &Case, outcome: &Outcome) -> Option<String> {
     let columns = match (case, outcome) {
         (Case::StandardId(raw), Outcome::Number(answer)) => number_columns("s", hex(u64::from(*raw), 2), answer),
         (Case::ExtendedId(raw), Outcome::Number(answer)) => number_columns("e", hex(u64::from(*raw), 4), answer),
         (Case::BaseId(raw), Outcome::Number(answer)) => number_columns("t", hex(u64::from(*raw), 4), answer),
-        (Case::Build(build), Outcome::Built(lending)) => build_columns(build, lending),
+        (Case::Build(build), Outcome::Built(lending)) => build_columns(build, lending)?,
         (Case::Read(read), Outcome::Read(readings)) => read_columns(read, readings),
         (Case::Patterns(case), Outcome::Compiled(lending)) => patterns_columns(case, lending),
         (Case::CodeMask(case), Outcome::Compiled(lending)) => code_mask_columns(case, lending),
@@ -54,9 +54,10 @@ fn number_columns(letter: &str, raw: String, answer: &Answer) -> Vec<String> {
     vec![letter.to_string(), raw, number, value]
 }
 
-fn build_columns(build: &Build, lending: &Lending) -> Vec<String> {
+fn build_columns(build: &Build, lending: &Lending) -> Option<Vec<String>> {
     let letter = match build.constructor {
         Constructor::NewFromParameters { .. } => "b",
+        Constructor::NewWithRemoteLength { .. } => return None,
         Constructor::New => "n",
         Constructor::NewSelfReception => "m",
     };
@@ -67,7 +68,7 @@ fn build_columns(build: &Build, lending: &Lending) -> Vec<String> {
     columns.extend([hex(build.data.len() as u64, 2), hex_of_bytes(&build.data)]);
     columns.extend(answer_columns(&lending.answer));
     columns.push(hex_of_bytes(&lending.lent[..FRAME_LENGTH]));
-    columns
+    Some(columns)
 }
 
 fn read_columns(read: &Read, readings: &Readings) -> Vec<String> {

@@ -6,7 +6,7 @@ use std::{collections::BTreeMap, hint::black_box, process::exit};
 use compare::{DIFFERENT, UNUSABLE, grouped, library::LIBRARY};
 use oracle::{
     answer::Answer,
-    case::{Case, Decision, FileCall, Match},
+    case::{Build, Case, Constructor, Decision, FileCall, Match},
     cases::{self, OUT_LENGTH},
     compiler::Compiler,
     driver::{DRIVER, filters::silence_refusals},
@@ -41,12 +41,13 @@ fn check_source() {
 }
 
 /// How many cases of each kind, and how many frames and filters by the number of the answer; and how many frames were
-/// matched by each row of positions, and accepted; and how many decisions by answer and command; and how many files by
-/// what was done with them and the number of the answer.
+/// built the same in both ways; and how many frames were matched by each row of positions, and accepted; and how many
+/// decisions by answer and command; and how many files by what was done with them and the number of the answer.
 #[derive(Default)]
 struct Tally {
     kinds: BTreeMap<&'static str, u64>,
     built: BTreeMap<u32, u64>,
+    built_in_both_ways: u64,
     compiled: BTreeMap<u32, u64>,
     refused_matches: BTreeMap<u32, u64>,
     matched: [u64; Compiler::ALL.len()],
@@ -66,6 +67,9 @@ impl Tally {
             && library != Outcome::Matched(Answer::gives(u64::from(verdict)))
         {
             stop(&before, &format!("by the characters: {verdict}\nours: {library:02x?}"));
+        }
+        if let Case::Build(build) = &case {
+            self.built_in_both_ways += u64::from(is_built_in_both_ways(build, &library));
         }
         if !library.refusals_write_nothing() {
             stop(&before, &format!("a refusal wrote: {library:02x?}"));
@@ -121,6 +125,7 @@ impl Tally {
     fn print(&self) {
         let kinds: Vec<String> = self.kinds.iter().map(|(kind, count)| format!("{} {kind}", grouped(*count))).collect();
         println!("answers to building, by number: {}", by_number(&self.built));
+        println!("frames that the old way builds, the same in the new way: {}", grouped(self.built_in_both_ways));
         println!("answers to compiling filters, by number: {}", by_number(&self.compiled));
         println!("frames accepted, by row of positions: {}", self.by_row());
         println!("matching refused, by number: {}", by_number(&self.refused_matches));
@@ -129,6 +134,18 @@ impl Tally {
         let cases = grouped(self.kinds.values().sum());
         println!("compared: {cases} cases: {}; 0 differ", kinds.join(", "));
     }
+}
+
+/// Whether this is a frame that the old way of building accepts; then the new one has to answer the same.
+fn is_built_in_both_ways(build: &Build, library: &Outcome) -> bool {
+    let Outcome::Built(lending) = library else { return false };
+    let Some(asked) = build.with_remote_length().filter(|_| !lending.answer.is_refusal()) else { return false };
+    let asked = Case::Build(asked);
+    let new = Outcome::of(&LIBRARY, &asked);
+    if new != *library {
+        stop(&asked, &format!("the old way: {library:02x?}\nthe new way: {new:02x?}"));
+    }
+    true
 }
 
 fn by_characters(case: &Case) -> Option<bool> {
@@ -151,6 +168,9 @@ fn stop(case: &Case, why: &str) -> ! {
 fn kind(case: &Case) -> &'static str {
     match case {
         Case::StandardId(_) | Case::ExtendedId(_) | Case::BaseId(_) => "identifiers made or refused",
+        Case::Build(Build { constructor: Constructor::NewWithRemoteLength { .. }, room: FRAME_LENGTH, .. }) => {
+            "frames built or refused with a remote length"
+        }
         Case::Build(build) if build.room == FRAME_LENGTH => "frames built or refused",
         Case::Read(read) if read.frame.len() == FRAME_LENGTH && read.room == OUT_LENGTH => {
             "frames read by nine readers"

@@ -17,6 +17,7 @@ mod decisions;
 mod filters;
 mod lists;
 mod matcher;
+mod remote_lengths;
 
 struct Row {
     name: &'static str,
@@ -99,7 +100,8 @@ fn names() -> impl Iterator<Item = &'static str> {
     let calls = calls::ROWS.iter().map(|row| row.name);
     let decisions = decisions::ROWS.iter().map(|row| row.name);
     let lists = lists::ROWS.iter().map(|row| row.name);
-    frames.chain(filters).chain(matches).chain(calls).chain(decisions).chain(lists)
+    let remote_lengths = remote_lengths::ROWS.iter().map(|row| row.name);
+    frames.chain(filters).chain(matches).chain(calls).chain(decisions).chain(lists).chain(remote_lengths)
 }
 
 /// Each of those that it calls is compiled apart: a row more in one leaves the counts of the others as they are.
@@ -109,6 +111,7 @@ fn run(row: usize, side: &str, times: u64) {
     let calls = matches + matcher::ROWS.len();
     let decisions = calls + calls::ROWS.len();
     let lists = decisions + decisions::ROWS.len();
+    let remote_lengths = lists + lists::ROWS.len();
     if row < filters {
         run_frames(&ROWS[row], side, times);
     } else if row < matches {
@@ -119,8 +122,10 @@ fn run(row: usize, side: &str, times: u64) {
         run_calls(&calls::ROWS[row - calls], side, times);
     } else if row < lists {
         run_decisions(&decisions::ROWS[row - decisions], side, times);
-    } else {
+    } else if row < remote_lengths {
         run_lists(&lists::ROWS[row - lists], side, times);
+    } else {
+        run_remote_lengths(&remote_lengths::ROWS[row - remote_lengths], side, times);
     }
 }
 
@@ -154,6 +159,18 @@ fn run_lists(row: &lists::Row, side: &str, times: u64) {
         "driver" => lists::by_plain_face(row, times),
         "library" => lists::by_library(row, times),
         "bare" => lists::bare(row, times),
+        _ => repeat(times, || {
+            black_box(row);
+        }),
+    }
+}
+
+#[inline(never)]
+fn run_remote_lengths(row: &remote_lengths::Row, side: &str, times: u64) {
+    match side {
+        "driver" => remote_lengths::by_face(black_box(&DRIVER), row, times),
+        "library" => remote_lengths::by_face(black_box(&LIBRARY), row, times),
+        "bare" => remote_lengths::bare(row, times),
         _ => repeat(times, || {
             black_box(row);
         }),
