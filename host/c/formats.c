@@ -145,7 +145,7 @@ static void top_bits(void)
     if (!refused(got, false)) printf("0x%03" PRIX64, got.value);
 }
 
-/* FORMAT ID[, remote][, self-reception], no data | data BYTES | N bytes of data[, code N] */
+/* FORMAT ID[, remote][, self-reception], no data | data BYTES | N bytes of data[, code N | , asking for N] */
 static void build(void)
 {
     bool extended = format();
@@ -159,15 +159,15 @@ static void build(void)
         data.length = number();
         if (!says("bytes of data") || data.length > LONGEST) not_understood("the data");
     }
-    bool coded = says("code");
+    bool asking = says("asking for"), coded = asking || says("code");
     if (!coded && !remote) {
         told(own ? chherbolat_new_self_reception(extended, id, data.bytes, data.length, frame, FRAME)
                  : chherbolat_new(extended, id, data.bytes, data.length, frame, FRAME), frame, FRAME);
         return;
     }
     size_t code = coded ? number() : 0;
-    told(chherbolat_new_from_parameters(extended, id, remote, own, code, data.bytes, data.length, frame, FRAME), frame,
-         FRAME);
+    told((asking ? chherbolat_new_with_remote_length : chherbolat_new_from_parameters)(
+             extended, id, remote, own, code, data.bytes, data.length, frame, FRAME), frame, FRAME);
 }
 
 static void read_frame(void)
