@@ -34,8 +34,8 @@ shownIn filter frame = numbersIn filter (idOf frame) (bit (remoteOf frame)) (byt
 abbrev pub shownBits : Filter → List ℕ → List (List ℕ)
 shownBits filter frame = writtenEach (fieldsOf filter) (shownIn filter frame)
 
--- which fields are compared depends on the data length: of the first half (of all, for a single filter) identifier and RTR always, and then a payload
--- field for each byte that the frame has; so many from the first on
+-- which fields are compared depends on the data length: of the first half (of all, for a single filter) the identifier and, where the row has it, RTR
+-- always, and then a payload field for each byte that the frame has; so many from the first on
 abbrev pub comparedFields : Filter → ℕ → ℕ
 comparedFields singleStandard bytes = 2 + min bytes 2
 comparedFields singleExtended bytes = 2
