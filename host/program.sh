@@ -1,5 +1,5 @@
-# Sourced by ./accept, ./filter, ./frames and ./library: the input of the first three, and the proving and building of what all four make, where that
-# was not done for the sources as they are.
+# Sourced by ./accept, ./filter and ./library: the input of the first two, and the proving and building of what all three make, where that was not done
+# for the sources as they are.
 ROOT=$(dirname "$(dirname "$(readlink -f "${BASH_SOURCE[0]}")")")
 
 fail() { # REASON

@@ -35,15 +35,8 @@ typedef struct {
 #define CHHERBOLAT_REFUSAL_FILE_ENDS 11             /* the offset of the field that is not whole */
 #define CHHERBOLAT_REFUSAL_COUNT_ABOVE_LIMIT 12     /* its offset in a file, or its section */
 #define CHHERBOLAT_REFUSAL_BYTES_AFTER_END 13       /* the offset of the first */
-#define CHHERBOLAT_REFUSAL_WRONG_LENGTH 14          /* the argument from 0, a slice being one; the section; or the entry */
+#define CHHERBOLAT_REFUSAL_WRONG_LENGTH 14          /* the argument from 0, a slice being one; or the section */
 #define CHHERBOLAT_REFUSAL_EMPTY_LIST 15            /* 0 */
-#define CHHERBOLAT_REFUSAL_MARKED_ENTRY 16          /* the entry's index */
-#define CHHERBOLAT_REFUSAL_ENTRY_OUTSIDE_FORM 17    /* the entry's index */
-#define CHHERBOLAT_REFUSAL_RANGE_REVERSED 18        /* 0 */
-#define CHHERBOLAT_REFUSAL_NO_TIME 19               /* 0 */
-#define CHHERBOLAT_REFUSAL_TOTAL_PASSES 20          /* 0 */
-#define CHHERBOLAT_REFUSAL_LIST_FULL 21             /* 0 */
-#define CHHERBOLAT_REFUSAL_NO_FILTER_THERE 22       /* 0 */
 
 /* What the value of refusal 5 holds: the pattern, from 0 in the order of the arguments, the place inside it, from 0, and
    the byte found there. */
@@ -51,26 +44,16 @@ typedef struct {
 #define CHHERBOLAT_PATTERN_BYTE_PLACE(value) ((value) >> 8 & 0xFF)
 #define CHHERBOLAT_PATTERN_BYTE_FOUND(value) ((value) & 0xFF)
 
-/* Lengths in bytes. A record of the box is a kind, a frame, and a number of four bytes, high byte first. */
+/* Lengths in bytes. */
 #define CHHERBOLAT_FRAME_LENGTH 13
 #define CHHERBOLAT_REGISTERS_LENGTH 8
-#define CHHERBOLAT_WAKE_LIST_LENGTH 401
-#define CHHERBOLAT_SOCKETCAN_LENGTH 16
-#define CHHERBOLAT_CHANGES_LENGTH 24
-#define CHHERBOLAT_TOTALS_LENGTH 40
-#define CHHERBOLAT_LOAD_LENGTH 16
-#define CHHERBOLAT_RECORD_LENGTH 18
-#define CHHERBOLAT_STATE_LENGTH 1512
+#define CHHERBOLAT_STATE_LENGTH 1376
 
 /* An identifier's bits, which are the characters of its pattern, and its limit. */
 #define CHHERBOLAT_STANDARD_WIDTH 11
 #define CHHERBOLAT_STANDARD_LIMIT 0x7FF
 #define CHHERBOLAT_EXTENDED_WIDTH 29
 #define CHHERBOLAT_EXTENDED_LIMIT 0x1FFFFFFF
-
-/* No range of identifiers has more patterns. */
-#define CHHERBOLAT_STANDARD_RANGE_PATTERNS 20
-#define CHHERBOLAT_EXTENDED_RANGE_PATTERNS 56
 
 /* A filter's kind. */
 #define CHHERBOLAT_KIND_SINGLE 0
@@ -97,22 +80,19 @@ typedef struct {
 #define CHHERBOLAT_CALL_ARRIVAL_ANSWER_LENGTH 2
 #define CHHERBOLAT_CALL_TAKE 2
 #define CHHERBOLAT_CALL_TAKE_LENGTH 1
-#define CHHERBOLAT_CALL_TAKE_ANSWER_LENGTH 20
+#define CHHERBOLAT_CALL_TAKE_ANSWER_LENGTH 16
 #define CHHERBOLAT_CALL_START 3
 #define CHHERBOLAT_CALL_START_LENGTH 13
 #define CHHERBOLAT_CALL_START_ANSWER_LENGTH 1
 #define CHHERBOLAT_CALL_STEP 4
 #define CHHERBOLAT_CALL_STEP_LENGTH 1
-#define CHHERBOLAT_CALL_STEP_ANSWER_LENGTH 27
+#define CHHERBOLAT_CALL_STEP_ANSWER_LENGTH 23
 #define CHHERBOLAT_CALL_LOAD 5
-#define CHHERBOLAT_CALL_LOAD_LENGTH 1513
+#define CHHERBOLAT_CALL_LOAD_LENGTH 1377
 #define CHHERBOLAT_CALL_LOAD_ANSWER_LENGTH 1
 #define CHHERBOLAT_CALL_STATE 6
 #define CHHERBOLAT_CALL_STATE_LENGTH 1
 #define CHHERBOLAT_CALL_STATE_ANSWER_LENGTH CHHERBOLAT_STATE_LENGTH
-#define CHHERBOLAT_CALL_ABANDON 7
-#define CHHERBOLAT_CALL_ABANDON_LENGTH 1
-#define CHHERBOLAT_CALL_ABANDON_ANSWER_LENGTH 20
 
 /* The second byte of an arrival's answer; the first of a record; the second of a step's answer, and its third. */
 #define CHHERBOLAT_ARRIVAL_WHOLE 0
@@ -224,50 +204,9 @@ chherbolat_answer chherbolat_dual_extended_filter_new_from_code_mask(uint16_t fi
 chherbolat_answer chherbolat_filter_from_list(bool extended, const uint32_t *list, size_t list_length, char *pattern,
                                               size_t pattern_length, uint8_t *registers, size_t registers_length);
 
-/* Gives how many identifier patterns, their x only at the tail, accept first to last and nothing else, and these in the
-   front of patterns, in rising order, 11 or 29 characters each and nothing between them. Refuses 1 for either end, 18 if
-   first is above last, then 6 with the length of these patterns. */
-chherbolat_answer chherbolat_patterns_from_range(bool extended, uint32_t first, uint32_t last, char *patterns,
-                                                 size_t patterns_length);
-/* Two identifier patterns joined: a position is kept where both agree, and free elsewhere. Gives how many identifiers get
-   through, the join in the front of pattern, and the filter in registers. Refuses 14, 4 with 0 or 1, 5, then 6 for a
-   pattern shorter than 11 or 29. */
-chherbolat_answer chherbolat_filter_join(bool extended, const char *first, size_t first_length, const char *second,
-                                         size_t second_length, char *pattern, size_t pattern_length,
-                                         uint8_t *registers, size_t registers_length);
-
 /* Gives 1 if the filter accepts the frame, else 0. Refuses 14 for the registers, 14 for the frame, then 7. */
 chherbolat_answer chherbolat_matcher_accepts(uint8_t kind, const uint8_t *registers, size_t registers_length,
                                              const uint8_t *frame, size_t frame_length);
-
-/* Which identifiers can wake us: a list of up to 16 filters, and beside it a bit for each standard identifier, in 401
-   bytes that the caller lends and that a call changes in place: a count, 16 places of 9 bytes, a kind and its registers,
-   and 256 bytes of bits: identifier i has bit i % 8, the lowest being 0, of byte i / 8. Fresh ones are all zeros. Any
-   other length is refused with 14, before all else. */
-
-/* Gives how many filters the list has then; the filter stands at its end, and its identifiers are added to the bits.
-   Refuses 14 for the list, 14 for the registers, 10 for a list above 16 or with a bad kind, 7, then 21 for a full list. */
-chherbolat_answer chherbolat_wake_add(uint8_t *list, size_t list_length, uint8_t kind, const uint8_t *registers,
-                                      size_t registers_length);
-/* Gives how many filters the list has then; those behind the place, which is from 0, have moved up, and the bits are
-   worked out afresh. Refuses 14, 10, then 22 where no filter has that place. */
-chherbolat_answer chherbolat_wake_remove(uint8_t *list, size_t list_length, size_t place);
-/* Gives 1 if some standard frame with that identifier is accepted by some filter of the list, else 0: one bit, and no
-   other byte is looked at. Refuses 14. */
-chherbolat_answer chherbolat_wake_may(const uint8_t *list, size_t list_length, uint32_t id);
-
-/* Runs of frame buffers, 13 bytes each, and of SocketCAN records, 16 bytes each: the identifier word, the high byte first,
-   with bit 31 extended, bit 30 remote and bit 29 an error record; the length, of a remote frame its code; two zeros; a
-   length code from 9 to 15, else 0; eight bytes of data, 0 past the length. */
-
-/* Gives the length written, and the records in the front of out. Refuses 14 for a partial buffer; then, buffer by buffer,
-   16 for a self-reception, or else 17 for one that no way of building makes, each with its index; then 6. */
-chherbolat_answer chherbolat_to_socketcan(const uint8_t *buffers, size_t buffers_length, uint8_t *out,
-                                          size_t out_length);
-/* Gives the length written, and the buffers in the front of out. Refuses 14 for a partial record; then, record by record,
-   16 for an error record, or else 17 for one outside the form, each with its index; then 6. */
-chherbolat_answer chherbolat_from_socketcan(const uint8_t *records, size_t records_length, uint8_t *out,
-                                            size_t out_length);
 
 /* Files of filters and frames (examples/README.md has the format). */
 
@@ -278,25 +217,8 @@ chherbolat_answer chherbolat_read_file(const uint8_t *file, size_t file_length);
    frames are entries of 13. Refuses 14, 12, 7, then 6. */
 chherbolat_answer chherbolat_write_file(const uint8_t *filters, size_t filters_length, const uint8_t *frames,
                                         size_t frames_length, uint8_t *out, size_t out_length);
-/* Gives the length of the file written, and in the front of out a file that the reader accepts: what is whole of one that
-   was cut or spoilt. In changes, 24 bytes, three numbers of 64 bits, high byte first: filters dropped, frames dropped,
-   bytes cut off. Refuses 14 for changes, 11, 12, then 6. */
-chherbolat_answer chherbolat_salvage(const uint8_t *file, size_t file_length, uint8_t *out, size_t out_length,
-                                     uint8_t *changes, size_t changes_length);
 /* Gives the report's length, and its text in the front of out. Refuses 6; the text says if the file is refused. */
 chherbolat_answer chherbolat_report(const uint8_t *file, size_t file_length, uint8_t *out, size_t out_length);
-
-/* Bus load. Totals are 40 bytes, five numbers of 64 bits, high byte first: standard frames, extended frames, data bytes,
-   bits without stuffing, bits in the worst case. 40 zeros are those of no frame. */
-
-/* Gives 40, and the file's frames are added to totals. Refuses 14, then 11, 12, 7 and 13 as read_file does, then 20 where a
-   total would pass 64 bits. */
-chherbolat_answer chherbolat_load_add(uint8_t *totals, size_t totals_length, const uint8_t *file, size_t file_length);
-/* Gives 16, and in out, 16 bytes, the two numbers of 64 bits, high byte first, whose quotient is the load: worst bits times
-   1000, and rate, in bits a second, times span, in milliseconds. Refuses 14 for totals, 14 for out, 19 for a rate or span
-   of zero, then 20 where a number would pass 64 bits. */
-chherbolat_answer chherbolat_load(const uint8_t *totals, size_t totals_length, uint64_t rate, uint64_t span, uint8_t *out,
-                                  size_t out_length);
 
 /* Decisions by the status word. */
 

@@ -1,7 +1,6 @@
 /* Runs a script of calls on a fresh box and prints each answer, its bytes first (docs/ABI.md, "The box's script").
    Standard input: the script in hexadecimal; spaces and line ends stand anywhere, `#` begins a remark. */
 #include <ctype.h>
-#include <inttypes.h>
 #include <stdio.h>
 #include <stdlib.h>
 #include "chherbolat.h"
@@ -18,7 +17,6 @@ static const struct {
     [CHHERBOLAT_CALL_STEP] = {"step", CHHERBOLAT_CALL_STEP_LENGTH, CHHERBOLAT_CALL_STEP_ANSWER_LENGTH},
     [CHHERBOLAT_CALL_LOAD] = {"load", CHHERBOLAT_CALL_LOAD_LENGTH, CHHERBOLAT_CALL_LOAD_ANSWER_LENGTH},
     [CHHERBOLAT_CALL_STATE] = {"state", CHHERBOLAT_CALL_STATE_LENGTH, CHHERBOLAT_CALL_STATE_ANSWER_LENGTH},
-    [CHHERBOLAT_CALL_ABANDON] = {"abandon", CHHERBOLAT_CALL_ABANDON_LENGTH, CHHERBOLAT_CALL_ABANDON_ANSWER_LENGTH},
 };
 
 static void fail(const char *why) {
@@ -47,10 +45,6 @@ static void print_bytes(const uint8_t *bytes, size_t length) {
     for (size_t i = 0; i < length; i++) printf("%02X", bytes[i]);
 }
 
-static uint32_t word(const uint8_t *bytes) {
-    return (uint32_t)bytes[0] << 24 | (uint32_t)bytes[1] << 16 | (uint32_t)bytes[2] << 8 | bytes[3];
-}
-
 static void print_record(const uint8_t *record) {
     if (record[0] == CHHERBOLAT_RECORD_FRAME) {
         printf("frame ");
@@ -58,15 +52,13 @@ static void print_record(const uint8_t *record) {
     } else {
         printf("%s", record[0] == CHHERBOLAT_RECORD_OVERRUN ? "Overrun" : "BusOff");
     }
-    printf(", number %" PRIu32, word(record + 1 + CHHERBOLAT_FRAME_LENGTH));
 }
 
 static void print_step(const uint8_t *answer) {
     static const char *const COMMAND[] = {"", "abort", "release"};
     if (answer[1] == CHHERBOLAT_STEP_FINISHED) {
-        const uint8_t *wakes = answer + 3 + CHHERBOLAT_RECORD_LENGTH;
-        printf("finished, transmit wakes %u, error wakes %u, enable ", wakes[0], wakes[1]);
-        print_bytes(wakes + 2, 4);
+        printf("finished, transmit wakes %u, error wakes %u, enable ", answer[17], answer[18]);
+        print_bytes(answer + 19, 4);
         return;
     }
     printf("%s", answer[1] ? COMMAND[answer[2]] : answer[2] ? COMMAND[answer[2]] : "done");
@@ -93,9 +85,6 @@ static void print_answer(int call, const uint8_t *answer) {
         printf("started");
     } else if (call == CHHERBOLAT_CALL_STEP) {
         print_step(answer);
-    } else if (call == CHHERBOLAT_CALL_ABANDON) {
-        printf(answer[1] ? "lost " : "nothing lost");
-        if (answer[1]) print_record(answer + 2);
     }
     printf("\n");
 }

@@ -29,10 +29,8 @@ static void calls(void)
     IS_A_CALL(STEP);
     IS_A_CALL(LOAD);
     IS_A_CALL(STATE);
-    IS_A_CALL(ABANDON);
     is("what a load has behind its first byte", CHHERBOLAT_CALL_LOAD_LENGTH - 1, CHHERBOLAT_STATE_LENGTH);
     is("what a state answers", CHHERBOLAT_CALL_STATE_ANSWER_LENGTH, CHHERBOLAT_STATE_LENGTH);
-    is("what a take answers", CHHERBOLAT_CALL_TAKE_ANSWER_LENGTH, 2 + CHHERBOLAT_RECORD_LENGTH);
 }
 
 /* Runs a script; then its answers are what was lent. */
@@ -61,30 +59,27 @@ static void refused_calls(void)
     is("the second start's answer", lent_bytes[1], CHHERBOLAT_REFUSAL_DRAIN_RUNS);
     ran("a step without a start", "04", 1);
     is("the step's answer", lent_bytes[0], CHHERBOLAT_REFUSAL_NO_DRAIN_RUNS);
-    ran("an abandonment without a start", "07", 1);
-    is("the abandonment's answer", lent_bytes[0], CHHERBOLAT_REFUSAL_NO_DRAIN_RUNS);
-    ran("no state", "05 FF*1512", 1);
+    ran("no state", "05 FF*1376", 1);
     is("the load's answer", lent_bytes[0], CHHERBOLAT_REFUSAL_BROKEN_STATE);
 }
 
 /* A frame is moved from the FIFO to the queue, then a mark; then a full queue loses a notice. */
 static void drains(void)
 {
-    enum { STEP = CHHERBOLAT_CALL_STEP_ANSWER_LENGTH };
-    const uint8_t *step = lent_bytes + 2 + 1 + 3 * STEP, *taken = step + 3 * STEP;
+    const uint8_t *step = lent_bytes + 2 + 1 + 3 * 23, *taken = step + 3 * 23;
     ran("a frame moved", "01 00*13  03 00000001 00*4 00000001  04*6  02", 9);
     is("the release", step[1], CHHERBOLAT_STEP_DONE);
     is("its command", step[2], CHHERBOLAT_STEP_RELEASE);
-    is("the offer's command", step[STEP + 2], CHHERBOLAT_STEP_NOTHING);
+    is("the offer's command", step[23 + 2], CHHERBOLAT_STEP_NOTHING);
     is("the record of a frame", taken[2], CHHERBOLAT_RECORD_FRAME);
-    ran("a mark moved", "05 01 00*896 01 00*579 05 01 00 00*19 01 00*12  04*2  02", 4);
-    is("the record of a mark", lent_bytes[1 + 2 * STEP + 2], CHHERBOLAT_RECORD_OVERRUN);
+    ran("a mark moved", "05 01 00*896 01 00*451 05 01 00 00*15 01 00*8  04*2  02", 4);
+    is("the record of a mark", lent_bytes[1 + 2 * 23 + 2], CHHERBOLAT_RECORD_OVERRUN);
     step = lent_bytes + 1 + 1;
-    ran("a notice lost", "05 00*1476 20 00*35  03 00000004 00*4 000000C0  04*2", 4);
+    ran("a notice lost", "05 00*1348 20 00*27  03 00000004 00*4 000000C0  04*2", 4);
     is("the notice", step[1], CHHERBOLAT_STEP_LOST);
     is("its command", step[2], CHHERBOLAT_STEP_ABORT);
     is("the lost record", step[3], CHHERBOLAT_RECORD_BUS_OFF);
-    is("the end", step[STEP + 1], CHHERBOLAT_STEP_FINISHED);
+    is("the end", step[23 + 1], CHHERBOLAT_STEP_FINISHED);
 }
 
 static void limits(void)
@@ -99,10 +94,6 @@ static void limits(void)
             CHHERBOLAT_STANDARD_WIDTH);
     refuses("extended", chherbolat_filter_from_list(true, entry, 1, pattern, 0, lent(), REGISTERS), OUTPUT_TOO_SHORT,
             CHHERBOLAT_EXTENDED_WIDTH);
-    refuses("standard", chherbolat_patterns_from_range(false, 1, CHHERBOLAT_STANDARD_LIMIT - 1, pattern, 0), OUTPUT_TOO_SHORT,
-            CHHERBOLAT_STANDARD_RANGE_PATTERNS * CHHERBOLAT_STANDARD_WIDTH);
-    refuses("extended", chherbolat_patterns_from_range(true, 1, CHHERBOLAT_EXTENDED_LIMIT - 1, pattern, 0), OUTPUT_TOO_SHORT,
-            CHHERBOLAT_EXTENDED_RANGE_PATTERNS * CHHERBOLAT_EXTENDED_WIDTH);
 }
 
 /* A filter whose two halves accept nothing alike: as a dual one it accepts what its second half does. */

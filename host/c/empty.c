@@ -103,33 +103,10 @@ static void filters_from_lists(void)
     refuses("registers", chherbolat_filter_from_list(false, list, 1, pattern, 11, NULL, 0), WRONG_LENGTH, 3);
 }
 
-static void patterns_from_ranges(void)
-{
-    refuses("patterns", chherbolat_patterns_from_range(false, 0x105, 0x107, NULL, 0), OUTPUT_TOO_SHORT, 22);
-}
-
-static void joins(void)
-{
-    char to[CHHERBOLAT_STANDARD_WIDTH];
-    refuses("first", chherbolat_filter_join(false, NULL, 0, ANY, 11, to, 11, lent(), REGISTERS), PATTERN_LENGTH, 0);
-    refuses("second", chherbolat_filter_join(false, ANY, 11, NULL, 0, to, 11, lent(), REGISTERS), PATTERN_LENGTH, 1);
-    refuses("pattern", chherbolat_filter_join(false, ANY, 11, ANY, 11, NULL, 0, lent(), REGISTERS), OUTPUT_TOO_SHORT, 11);
-    refuses("registers", chherbolat_filter_join(false, ANY, 11, ANY, 11, to, 11, NULL, 0), WRONG_LENGTH, 4);
-}
-
 static void matching(void)
 {
     refuses("registers", chherbolat_matcher_accepts(0, NULL, 0, FRAME_OF_ONE, FRAME), WRONG_LENGTH, 1);
     refuses("frame", chherbolat_matcher_accepts(0, FILTER + 1, REGISTERS, NULL, 0), WRONG_LENGTH, 2);
-}
-
-static void wakes(void)
-{
-    uint8_t list[CHHERBOLAT_WAKE_LIST_LENGTH] = {0};
-    refuses("list", chherbolat_wake_add(NULL, 0, 0, FILTER + 1, REGISTERS), WRONG_LENGTH, 0);
-    refuses("registers", chherbolat_wake_add(list, sizeof list, 0, NULL, 0), WRONG_LENGTH, 2);
-    refuses("list", chherbolat_wake_remove(NULL, 0, 0), WRONG_LENGTH, 0);
-    refuses("list", chherbolat_wake_may(NULL, 0, 0), WRONG_LENGTH, 0);
 }
 
 static void files(void)
@@ -140,34 +117,9 @@ static void files(void)
     gives("frames", chherbolat_write_file(FILTER, sizeof FILTER, NULL, 0, lent(), 12), 12);
     wrote("frames", bytes("01 00 00000000FFDFFFFF 0000"));
     refuses("out", chherbolat_write_file(FILTER, sizeof FILTER, FRAME_OF_ONE, FRAME, NULL, 0), OUTPUT_TOO_SHORT, 25);
-    refuses("file", chherbolat_salvage(NULL, 0, lent(), 3, lent() + 3, CHHERBOLAT_CHANGES_LENGTH), FILE_ENDS, 0);
-    refuses("out", chherbolat_salvage(FILTER, 1, NULL, 0, lent(), CHHERBOLAT_CHANGES_LENGTH), OUTPUT_TOO_SHORT, 3);
-    refuses("changes", chherbolat_salvage(FILTER, 1, lent(), 3, NULL, 0), WRONG_LENGTH, 2);
     gives("file", chherbolat_report(NULL, 0, lent(), 16), 16);
     wrote("file", characters("refused 11 at 0\n"));
     refuses("out", chherbolat_report(FILTER, 1, NULL, 0), OUTPUT_TOO_SHORT, 16);
-}
-
-static void records(void)
-{
-    static const uint8_t record_of_one[] = {0, 0, 1, 0x24, 1, 0, 0, 0, 0xAB, 0, 0, 0, 0, 0, 0, 0};
-    gives("buffers", chherbolat_to_socketcan(NULL, 0, lent(), 16), 0);
-    wrote_nothing("buffers");
-    refuses("out", chherbolat_to_socketcan(FRAME_OF_ONE, FRAME, NULL, 0), OUTPUT_TOO_SHORT, 16);
-    gives("records", chherbolat_from_socketcan(NULL, 0, lent(), 16), 0);
-    wrote_nothing("records");
-    refuses("out", chherbolat_from_socketcan(record_of_one, sizeof record_of_one, NULL, 0), OUTPUT_TOO_SHORT, FRAME);
-    gives("buffers and out", chherbolat_to_socketcan(NULL, 0, NULL, 0), 0);
-}
-
-static void load(void)
-{
-    run totals = bytes("00*40");
-    refuses("totals", chherbolat_load_add(NULL, 0, FILTER, 1), WRONG_LENGTH, 0);
-    refuses("file", chherbolat_load_add(lent(), CHHERBOLAT_TOTALS_LENGTH, NULL, 0), FILE_ENDS, 0);
-    wrote_nothing("file");
-    refuses("totals", chherbolat_load(NULL, 0, 1, 1, lent(), CHHERBOLAT_LOAD_LENGTH), WRONG_LENGTH, 0);
-    refuses("out", chherbolat_load(totals.bytes, totals.length, 1, 1, NULL, 0), WRONG_LENGTH, 3);
 }
 
 static void box(void)
@@ -186,13 +138,8 @@ int main(void)
     single_filters();
     dual_filters();
     filters_from_lists();
-    patterns_from_ranges();
-    joins();
     matching();
-    wakes();
     files();
-    records();
-    load();
     box();
     printf("c: %u answers to NULL and 0\n", checked);
     return 0;

@@ -10,10 +10,7 @@
 
 enum { FRAME = CHHERBOLAT_FRAME_LENGTH, REGISTERS = CHHERBOLAT_REGISTERS_LENGTH, STATE = CHHERBOLAT_STATE_LENGTH };
 /* Where a state tells these, and steps by the numbers that it tells. */
-enum { STATE_FIFO_COUNT = 897, STATE_QUEUE_COUNT = 1476, STATE_NEXT_STEP = 1477, NOTICE = 1, LOOK = 2, FINISH = 7 };
-enum { STATE_NEXT_NUMBER = STATE - 4 };
-/* Where a record tells its number, and a step's answer its lost record and its wakes. */
-enum { NUMBER = 1 + FRAME, LOST = 3, WAKES = LOST + CHHERBOLAT_RECORD_LENGTH };
+enum { STATE_FIFO_COUNT = 897, STATE_QUEUE_COUNT = 1348, STATE_NEXT_STEP = 1349, NOTICE = 1, LOOK = 2, FINISH = 7 };
 enum { LONGEST = 1 << 16 };
 /* Bits of the interrupt word, and of the status word. */
 enum { RECEIVE = 0x01, ERROR_WARNING = 0x04, READY = 0x01, IN_ERROR = 0x40, IN_BUS_OFF = 0x80 };
@@ -105,9 +102,6 @@ static bool carries(uint32_t refusal, bool of_list)
     case CHHERBOLAT_REFUSAL_NO_DRAIN_RUNS:
     case CHHERBOLAT_REFUSAL_BROKEN_STATE:
     case CHHERBOLAT_REFUSAL_EMPTY_LIST:
-    case CHHERBOLAT_REFUSAL_RANGE_REVERSED:
-    case CHHERBOLAT_REFUSAL_NO_TIME:
-    case CHHERBOLAT_REFUSAL_TOTAL_PASSES:
         return false;
     default:
         return true;
@@ -368,21 +362,6 @@ static void list(void)
     printf(", %" PRIu64 " let through", got.value);
 }
 
-static void range(void)
-{
-    static char patterns[CHHERBOLAT_EXTENDED_RANGE_PATTERNS * CHHERBOLAT_EXTENDED_WIDTH];
-    bool extended = format();
-    int width = extended ? CHHERBOLAT_EXTENDED_WIDTH : CHHERBOLAT_STANDARD_WIDTH;
-    uint32_t first = number_to(UINT32_MAX);
-    if (!says("to")) not_understood("the last identifier");
-    uint32_t last = number_to(UINT32_MAX);
-    size_t room = says("into") ? number() : sizeof patterns;
-    if (room > sizeof patterns || (room < sizeof patterns && !says("bytes"))) not_understood("the room");
-    chherbolat_answer got = chherbolat_patterns_from_range(extended, first, last, patterns, room);
-    if (refused(got, false)) return;
-    for (size_t i = 0; i < got.value; i++) printf("%s%.*s", i ? ", " : "", width, patterns + i * (size_t)width);
-}
-
 static uint8_t kind(void)
 {
     if (says("single")) return CHHERBOLAT_KIND_SINGLE;
@@ -427,14 +406,6 @@ static void poll(void)
     uint32_t status = word("status");
     bool passive = says("error-passive"), in_flight = says("in flight");
     decision(chherbolat_poll(status, passive, in_flight));
-}
-
-/* Four bytes, high byte first. */
-static uint32_t word_at(const uint8_t *from)
-{
-    uint32_t read = 0;
-    for (int i = 0; i < 4; i++) read = read << 8 | from[i];
-    return read;
 }
 
 /* A script for a fresh box, and the answers that it was given so far. */
@@ -582,81 +553,29 @@ static void finish(void)
     fresh();
     start_given();
     do answer = step(); while (answer[1] != CHHERBOLAT_STEP_FINISHED);
-    printf("transmit wakes %u, error wakes %u, enable 0x%02" PRIX32, answer[WAKES], answer[WAKES + 1],
-           word_at(answer + WAKES + 2));
+    uint32_t enable = 0;
+    for (int i = 19; i < CHHERBOLAT_CALL_STEP_ANSWER_LENGTH; i++) enable = enable << 8 | answer[i];
+    printf("transmit wakes %u, error wakes %u, enable 0x%02" PRIX32, answer[17], answer[18], enable);
 }
 
-typedef struct {
-    unsigned queued, lost;
-    uint32_t last_lost; /* its number */
-} drained;
-
 /* N queued, M in the FIFO: one drain over so many notices in the queue and frames in the FIFO. */
-static drained drain_given(void)
+static void drain(void)
 {
-    drained done = {.queued = number_to(32)};
-    bool ended = false;
+    unsigned queued = number_to(32), lost = 0, ended = 0;
     if (!says("queued")) not_understood("queued");
     unsigned waiting = number_to(64);
     if (!says("in the FIFO")) not_understood("in the FIFO");
     fresh();
-    for (unsigned i = 0; i < done.queued; i++) start(ERROR_WARNING, 0, IN_BUS_OFF | IN_ERROR), step(), step();
+    for (unsigned i = 0; i < queued; i++) start(ERROR_WARNING, 0, IN_BUS_OFF | IN_ERROR), step(), step();
     for (unsigned i = 0; i < waiting; i++) arrive((const uint8_t[FRAME]){0});
-    if (state()[STATE_QUEUE_COUNT] != done.queued || state()[STATE_FIFO_COUNT] != waiting)
-        not_understood("so many do not fit");
+    if (state()[STATE_QUEUE_COUNT] != queued || state()[STATE_FIFO_COUNT] != waiting) not_understood("so many do not fit");
     start(RECEIVE, 0, READY);
     while (!ended) {
         const uint8_t *answer = step();
-        if (answer[1] == CHHERBOLAT_STEP_LOST) done.lost++, done.last_lost = word_at(answer + LOST + NUMBER);
+        lost += answer[1] == CHHERBOLAT_STEP_LOST;
         ended = answer[1] == CHHERBOLAT_STEP_FINISHED;
     }
-    return done;
-}
-
-static void drain(void)
-{
-    drained done = drain_given();
-    unsigned stored = state()[STATE_QUEUE_COUNT] - done.queued;
-    printf("%u stored, %u lost, %u left", stored, done.lost, state()[STATE_FIFO_COUNT]);
-}
-
-/* The numbers of what the same drain stored and lost, and the next. */
-static void numbers(void)
-{
-    drained done = drain_given();
-    uint32_t following = word_at(state() + STATE_NEXT_NUMBER);
-    for (unsigned i = 0; i < done.queued; i++) take();
-    printf("stored");
-    for (const uint8_t *taken = take(); taken[1]; taken = take()) printf(" %" PRIu32, word_at(taken + 2 + NUMBER));
-    if (done.lost) printf(", lost %" PRIu32, done.last_lost);
-    printf(", next %" PRIu32, following);
-}
-
-static const uint8_t *abandon(void)
-{
-    static const uint8_t from = CHHERBOLAT_CALL_ABANDON;
-    return answered(&from, 1, CHHERBOLAT_CALL_ABANDON_ANSWER_LENGTH);
-}
-
-/* after N steps: a drain over one frame is abandoned there; what is lost, and how often a drain begun anew hands the
-   frame out. */
-static void abandoned(void)
-{
-    if (!says("after")) not_understood("after");
-    unsigned steps = number_to(8), times = 0;
-    if (!says("steps") && !says("step")) not_understood("steps");
-    fresh();
-    arrive((const uint8_t[FRAME]){0});
-    start(RECEIVE, 0, READY);
-    for (unsigned i = 0; i < steps; i++)
-        if (*step()) not_understood("the drain has no more steps");
-    const uint8_t *answer = abandon();
-    if (*answer) not_understood("the drain had ended");
-    if (answer[1]) printf("lost %" PRIu32, word_at(answer + 2 + NUMBER)); else printf("none lost");
-    start(RECEIVE, 0, READY);
-    while (step()[1] != CHHERBOLAT_STEP_FINISHED) continue;
-    while (take()[1]) times++;
-    printf(", handed out %u time%s", times, times == 1 ? "" : "s");
+    printf("%u stored, %u lost, %u left", state()[STATE_QUEUE_COUNT] - queued, lost, state()[STATE_FIFO_COUNT]);
 }
 
 /* Calls on a fresh box; the answer is that of the last. */
@@ -672,8 +591,6 @@ static void box(void)
             refusal = *step();
         } else if (says("take")) {
             refusal = *take();
-        } else if (says("abandon")) {
-            refusal = *abandon();
         } else {
             load_marks((uint8_t)number_to(UINT8_MAX));
             if (!says("entries")) not_understood("entries");
@@ -702,7 +619,7 @@ static const char *interrupt_bit(uint32_t bit)
     start(bit, 0, 0);
     if (state()[STATE_NEXT_STEP] == LOOK) return "receive";
     const uint8_t *answer = step();
-    return answer[WAKES + 1] ? "error" : answer[WAKES] ? "transmit" : "-";
+    return answer[18] ? "error" : answer[17] ? "transmit" : "-";
 }
 
 /* A word's bits from the highest that the page draws; those above it are not looked at. */
@@ -758,56 +675,6 @@ static void write_file(void)
     told(got, out, got.value);
 }
 
-/* buffers | records BYTES[ into N bytes]: in the other form */
-static void turned(void)
-{
-    static uint8_t out[LONGEST];
-    bool buffers = says("buffers");
-    if (!buffers && !says("records")) not_understood("buffers or records");
-    run from = bytes();
-    size_t room = says("into") ? number() : LONGEST;
-    if (room > LONGEST || (room < LONGEST && !says("bytes"))) not_understood("the room");
-    chherbolat_answer got =
-        (buffers ? chherbolat_to_socketcan : chherbolat_from_socketcan)(from.bytes, from.length, out, room);
-    told(got, out, got.value);
-}
-
-static uint64_t word_in(const uint8_t *eight_bytes)
-{
-    uint64_t word = 0;
-    for (int place = 0; place < 8; place++) word = word << 8 | eight_bytes[place];
-    return word;
-}
-
-static void salvage(void)
-{
-    static uint8_t out[LONGEST];
-    uint8_t changes[CHHERBOLAT_CHANGES_LENGTH];
-    run from = bytes();
-    size_t room = says("into") ? number() : LONGEST;
-    if (room > LONGEST || (room < LONGEST && !says("bytes"))) not_understood("the room");
-    chherbolat_answer got = chherbolat_salvage(from.bytes, from.length, out, room, changes, sizeof changes);
-    told(got, out, got.value);
-    if (got.number == 0)
-        printf("; dropped %" PRIu64 " and %" PRIu64 ", cut %" PRIu64, word_in(changes), word_in(changes + 8),
-               word_in(changes + 16));
-}
-
-/* The totals of one file, and its load where a rate and a span are given. */
-static void load(void)
-{
-    uint8_t totals[CHHERBOLAT_TOTALS_LENGTH] = {0}, numbers[CHHERBOLAT_LOAD_LENGTH];
-    run from = bytes();
-    if (refused(chherbolat_load_add(totals, sizeof totals, from.bytes, from.length), false)) return;
-    for (int place = 0; place < 5; place++) printf("%s%" PRIu64, place == 0 ? "" : " ", word_in(totals + 8 * place));
-    if (!says("rate")) return;
-    uint64_t rate = number();
-    if (!says("span")) not_understood("the span");
-    printf("; ");
-    chherbolat_answer got = chherbolat_load(totals, sizeof totals, rate, number(), numbers, sizeof numbers);
-    if (!refused(got, false)) printf("%" PRIu64 " / %" PRIu64, word_in(numbers), word_in(numbers + 8));
-}
-
 typedef struct {
     const char *first;
     void (*answer)(void);
@@ -817,9 +684,8 @@ static const form FORM[] = {
     {"identifier", identifier}, {"top 11 bits of", top_bits}, {"build", build},       {"read", read_frame},
     {"data of", data_into},     {"draw", draw},               {"list", list},         {"match", match},
     {"transmit", transmit},     {"poll", poll},               {"arrivals", arrivals}, {"steps", steps},
-    {"finish", finish},         {"drain", drain},             {"numbers", numbers},   {"box", box},
-    {"abandoned", abandoned},   {"file", file},               {"write", write_file},  {"range", range},
-    {"turn", turned},           {"salvage", salvage},         {"load", load},
+    {"finish", finish},         {"drain", drain},             {"box", box},           {"file", file},
+    {"write", write_file},
 };
 
 static void answer(void)

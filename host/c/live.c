@@ -23,9 +23,9 @@ int main(void)
     const uint8_t step = CHHERBOLAT_CALL_STEP, take = CHHERBOLAT_CALL_TAKE, state = CHHERBOLAT_CALL_STATE;
     chherbolat_box_script(&state, 1, box + 1, CHHERBOLAT_STATE_LENGTH); /* a fresh box's */
     bool good = call(arrival, sizeof arrival, 2) && call(start, sizeof start, 1);
-    do good = good && call(&step, 1, CHHERBOLAT_CALL_STEP_ANSWER_LENGTH);
+    do good = good && call(&step, 1, 23);
     while (good && out[2] != CHHERBOLAT_STEP_FINISHED);
-    if (!good || !call(&take, 1, CHHERBOLAT_CALL_TAKE_ANSWER_LENGTH) || out[2] == 0) return 1;
+    if (!good || !call(&take, 1, 16) || out[2] == 0) return 1;
     printf("taken: a frame from 0x%X\n", (unsigned)chherbolat_identifier(out + 4, 13).value);
     return 0;
 }

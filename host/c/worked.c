@@ -189,64 +189,6 @@ static void filters_from_lists(void)
     wrote_nothing("list, 28 characters");
 }
 
-static chherbolat_answer from_range(bool extended, uint32_t first, uint32_t last, size_t length)
-{
-    return chherbolat_patterns_from_range(extended, first, last, (char *)lent(), length);
-}
-
-static void patterns_from_ranges(void)
-{
-    gives("| standard, 0x105 to 0x10B | 40 bytes |", from_range(false, 0x105, 0x10B, 40), 3);
-    wrote("range", characters("001000001010010000011x001000010xx"));
-    gives("| standard, 0x000 to 0x7FF | 11 bytes |", from_range(false, 0, 0x7FF, 11), 1);
-    wrote("range, all", characters("xxxxxxxxxxx"));
-    refuses("| standard, 0x105 to 0x10B | 32 bytes |", from_range(false, 0x105, 0x10B, 32), OUTPUT_TOO_SHORT, 33);
-    wrote_nothing("range, 32 characters");
-    refuses("| standard, 0x10B to 0x105 | 0 bytes |", from_range(false, 0x10B, 0x105, 0), RANGE_REVERSED, 0);
-    refuses("| standard, 0x800 to 0x105 | 0 bytes |", from_range(false, 0x800, 0x105, 0), IDENTIFIER_ABOVE_LIMIT, 0);
-    refuses("| extended, 0x105 to 0x20000000 | 0 bytes |", from_range(true, 0x105, 0x20000000, 0), IDENTIFIER_ABOVE_LIMIT, 0);
-    gives("range, extended", from_range(true, 0x1FFFFFFE, 0x1FFFFFFF, 29), 1);
-    wrote("range, extended", characters("1111111111111111111111111111x"));
-}
-
-/* The join goes into what is lent, and the registers behind it. */
-static chherbolat_answer join(const char *first, const char *second, size_t pattern_length, size_t registers_length)
-{
-    uint8_t *pattern = lent();
-    return chherbolat_filter_join(false, first, strlen(first), second, strlen(second), (char *)pattern, pattern_length,
-                                  pattern + pattern_length, registers_length);
-}
-
-static void joins(void)
-{
-    run written = characters("0010000xx00");
-    gives("| `0010000x000`, `00100000x00` | 11 bytes |", join("0010000x000", "00100000x00", 11, REGISTERS), 4);
-    memcpy(written.bytes + 11, bytes("20 00 00 00 01 9F FF FF").bytes, REGISTERS);
-    written.length += REGISTERS;
-    wrote("join", written);
-    gives("| `00100000x00`, `00100000000` | 11 bytes |", join("00100000x00", "00100000000", 11, REGISTERS), 2);
-    written = characters("00100000x00");
-    memcpy(written.bytes + 11, bytes("20 00 00 00 00 9F FF FF").bytes, REGISTERS);
-    written.length += REGISTERS;
-    wrote("join with a part", written);
-    refuses("| `0010000x000`, `00100000x00` | 10 bytes |", join("0010000x000", "00100000x00", 10, REGISTERS),
-            OUTPUT_TOO_SHORT, 11);
-    wrote_nothing("join, ten characters");
-    refuses("| `0010000x000`, `0010000?x00` | 10 bytes |", join("0010000x000", "0010000?x00", 10, REGISTERS),
-            PATTERN_BYTE, 0x01073F);
-    wrote_nothing("join, a byte of the second");
-    refuses("| `0010000?000`, `0010?000x00` | 10 bytes |", join("0010000?000", "0010?000x00", 10, REGISTERS),
-            PATTERN_BYTE, 0x073F);
-    wrote_nothing("join, a byte of both");
-    refuses("| `0010000?000`, `00100000x0` | 10 bytes |", join("0010000?000", "00100000x0", 10, REGISTERS),
-            PATTERN_LENGTH, 1);
-    wrote_nothing("join, the second short");
-    refuses("| none, none | 10 bytes |", join("", "", 10, REGISTERS), PATTERN_LENGTH, 0);
-    wrote_nothing("join, both empty");
-    refuses("| none, none, and seven registers | 10 bytes |", join("", "", 10, 7), WRONG_LENGTH, 4);
-    wrote_nothing("join, seven registers");
-}
-
 static void matching(void)
 {
     run registers = bytes("00 00 00 00 FF DF FF FF");
@@ -268,39 +210,6 @@ static void matching(void)
 /* An answer and a command as one value. */
 #define DECIDED(answer, command) (CHHERBOLAT_ANSWER_##answer + 256 * CHHERBOLAT_COMMAND_##command)
 
-/* How many identifiers can wake us. */
-static chherbolat_answer wakes_in_all(const uint8_t *list)
-{
-    chherbolat_answer all = {0, 0};
-    for (uint32_t id = 0; id <= CHHERBOLAT_STANDARD_LIMIT; id++)
-        all.value += chherbolat_wake_may(list, CHHERBOLAT_WAKE_LIST_LENGTH, id).value;
-    return all;
-}
-
-static void wakes(void)
-{
-    static uint8_t list[CHHERBOLAT_WAKE_LIST_LENGTH];
-    run even = bytes("00 00 00 00 FF DF FF FF"), both = bytes("20 00 24 60 00 1F 00 1F");
-    gives("| wake, add the filter, kind 0 |", chherbolat_wake_add(list, sizeof list, 0, even.bytes, REGISTERS), 1);
-    gives("wake, even identifiers", wakes_in_all(list), 1024);
-    gives("| wake, may 0x124 |", chherbolat_wake_may(list, sizeof list, 0x124), 1);
-    gives("| wake, may 0x123 |", chherbolat_wake_may(list, sizeof list, 0x123), 0);
-    gives("| wake, may 0x800 |", chherbolat_wake_may(list, sizeof list, 0x800), 0);
-    gives("wake, add a dual filter", chherbolat_wake_add(list, sizeof list, 1, both.bytes, REGISTERS), 2);
-    gives("wake, its second half", chherbolat_wake_may(list, sizeof list, 0x123), 1);
-    refuses("| wake, add, kind 2 |", chherbolat_wake_add(list, sizeof list, 2, even.bytes, REGISTERS), FILTER_KIND, 0);
-    refuses("| wake, remove at 2 |", chherbolat_wake_remove(list, sizeof list, 2), NO_FILTER_THERE, 0);
-    gives("| wake, remove at 0 |", chherbolat_wake_remove(list, sizeof list, 0), 1);
-    gives("wake, 0x100 is left", chherbolat_wake_may(list, sizeof list, 0x100), 1);
-    gives("wake, 0x124 is gone", chherbolat_wake_may(list, sizeof list, 0x124), 0);
-    for (unsigned i = 1; i < 16; i++)
-        gives("wake, filled", chherbolat_wake_add(list, sizeof list, 0, even.bytes, REGISTERS), i + 1);
-    refuses("| wake, add a seventeenth |", chherbolat_wake_add(list, sizeof list, 0, even.bytes, REGISTERS), LIST_FULL, 0);
-    list[0] = 17;
-    refuses("| wake, a count of 17 |", chherbolat_wake_remove(list, sizeof list, 0), BROKEN_STATE, 0);
-    refuses("wake, 400 bytes", chherbolat_wake_may(list, sizeof list - 1, 0), WRONG_LENGTH, 0);
-}
-
 static void decisions(void)
 {
     gives("| receive, status 0x101 |", chherbolat_receive(0x101), DECIDED(OVERRUN, NOTHING));
@@ -317,30 +226,24 @@ static void decisions(void)
 static void box(void)
 {
     run script = bytes("01 012480AB 00*9  04  03 00000003 000000FF 00000001  04*7  02");
-    run dropped = bytes("01 012480AB 00*9  03 00000001 00*4 00000001  04*4  07 07  02");
-    run no_state = bytes("05 FF*1512 02");
-    run broken = bytes("05 00*897 41 00*614 02");
-    run at_release = bytes("05 01 00*896 01 00*579 05 01 00 00*19 01 00*12 04");
-    run beside = bytes("05 01 00*896 01 00*579 05 01 07 00*19 01 00*12 04");
-    run largest = bytes("05 01 00*896 01 00*579 05 01 00 00*19 01 00*8 FFFFFFFF 04 04 02");
-    gives("script", chherbolat_box_script(script.bytes, script.length, lent(), 239), 11);
-    wrote("script", bytes("00 00  09 00*26  00  00*81  00 00 02 00*24  00*54  00 02 00 00*18 01 00 000000FD"
-                          "  00 01 00 012480AB 00*13"));
-    refuses("script, 238 bytes", chherbolat_box_script(script.bytes, script.length, lent(), 238), OUTPUT_TOO_SHORT,
-            239);
-    wrote_nothing("script, 238 bytes");
-    gives("script, abandoned", chherbolat_box_script(dropped.bytes, dropped.length, lent(), 171), 9);
-    wrote("script, abandoned", bytes("00 00  00  00*81  00 00 02 00*24  00 01 00 012480AB 00*13  09 00*19  00*20"));
-    gives("script, no state", chherbolat_box_script(no_state.bytes, no_state.length, lent(), 21), 2);
-    wrote("script, no state", bytes("0A 00*20"));
-    gives("script, a broken state", chherbolat_box_script(broken.bytes, broken.length, lent(), 21), 2);
-    wrote("script, a broken state", bytes("00 0A 00*19"));
-    gives("script, an Overrun at release", chherbolat_box_script(at_release.bytes, at_release.length, lent(), 28), 2);
-    wrote("script, an Overrun at release", bytes("00 00 00 02 00*24"));
-    gives("script, a byte beside an Overrun", chherbolat_box_script(beside.bytes, beside.length, lent(), 28), 2);
-    wrote("script, a byte beside an Overrun", bytes("00 0A 00*26"));
-    gives("script, the largest number", chherbolat_box_script(largest.bytes, largest.length, lent(), 75), 4);
-    wrote("script, the largest number", bytes("00  00 00 02 00*24  00*27  00 01 01 00*13 FFFFFFFF"));
+    run no_state = bytes("05 FF*1376 02");
+    run broken = bytes("05 00*897 41 00*478 02");
+    run at_release = bytes("05 01 00*896 01 00*451 05 01 00 00*15 01 00*8 04");
+    run beside = bytes("05 01 00*896 01 00*451 05 01 07 00*15 01 00*8 04");
+    gives("script", chherbolat_box_script(script.bytes, script.length, lent(), 203), 11);
+    wrote("script", bytes("00 00  09 00*22  00  00*69  00 00 02 00*20  00*46  00 02 00 00*14 01 00 000000FD"
+                          "  00 01 00 012480AB 00*9"));
+    refuses("script, 202 bytes", chherbolat_box_script(script.bytes, script.length, lent(), 202), OUTPUT_TOO_SHORT,
+            203);
+    wrote_nothing("script, 202 bytes");
+    gives("script, no state", chherbolat_box_script(no_state.bytes, no_state.length, lent(), 17), 2);
+    wrote("script, no state", bytes("0A 00*16"));
+    gives("script, a broken state", chherbolat_box_script(broken.bytes, broken.length, lent(), 17), 2);
+    wrote("script, a broken state", bytes("00 0A 00*15"));
+    gives("script, an Overrun at release", chherbolat_box_script(at_release.bytes, at_release.length, lent(), 24), 2);
+    wrote("script, an Overrun at release", bytes("00 00 00 02 00*20"));
+    gives("script, a byte beside an Overrun", chherbolat_box_script(beside.bytes, beside.length, lent(), 24), 2);
+    wrote("script, a byte beside an Overrun", bytes("00 0A 00*22"));
 }
 
 static void files(void)
@@ -367,72 +270,6 @@ static void files(void)
     wrote_nothing("written, 25 bytes of frames");
 }
 
-static void records(void)
-{
-    run buffers = bytes("022460ABCD 00*8  C891A2B3C0 00*8  0A2460 0102030405060708 0000");
-    run made = bytes("00000123 02000000 ABCD 00*6  D2345678 08000000 00*8  00000123 0800000A 0102030405060708");
-    run own = bytes("022460ABCD 00*8  322460ABCD 00*8");
-    run reserved = bytes("022460ABCD 00*8  222460ABCD 00*8");
-    run error = bytes("20000123 02000000 ABCD 00*5 01");
-    run beyond = bytes("00000923 02000000 ABCD 00*6");
-    run asking = bytes("40000123 08000008 00*8");
-    gives("| the three buffers to records, into 50 bytes |", chherbolat_to_socketcan(buffers.bytes, 39, lent(), 50),
-          3 * CHHERBOLAT_SOCKETCAN_LENGTH);
-    wrote("to records", made);
-    gives("| the three records to buffers, into 40 bytes |", chherbolat_from_socketcan(made.bytes, 48, lent(), 40), 39);
-    wrote("to buffers", buffers);
-    refuses("| 38 bytes of the buffers |", chherbolat_to_socketcan(buffers.bytes, 38, lent(), 0), WRONG_LENGTH, 2);
-    refuses("| 47 bytes of the records |", chherbolat_from_socketcan(made.bytes, 47, lent(), 0), WRONG_LENGTH, 2);
-    refuses("| a second buffer that is a self-reception, its reserved bit set too |",
-            chherbolat_to_socketcan(own.bytes, 26, lent(), 50), MARKED_ENTRY, 1);
-    refuses("| a second buffer with its reserved bit set |", chherbolat_to_socketcan(reserved.bytes, 26, lent(), 50),
-            ENTRY_OUTSIDE_FORM, 1);
-    refuses("| an error record with data past its length |", chherbolat_from_socketcan(error.bytes, 16, lent(), 50),
-            MARKED_ENTRY, 0);
-    refuses("| a standard record with identifier bit 11 |", chherbolat_from_socketcan(beyond.bytes, 16, lent(), 50),
-            ENTRY_OUTSIDE_FORM, 0);
-    refuses("| a remote record with a byte 7 |", chherbolat_from_socketcan(asking.bytes, 16, lent(), 50),
-            ENTRY_OUTSIDE_FORM, 0);
-    refuses("| the three buffers to records, into 47 bytes |", chherbolat_to_socketcan(buffers.bytes, 39, lent(), 47),
-            OUTPUT_TOO_SHORT, 48);
-    wrote_nothing("to records, 47 bytes");
-    refuses("| the three records to buffers, into 38 bytes |", chherbolat_from_socketcan(made.bytes, 48, lent(), 38),
-            OUTPUT_TOO_SHORT, 39);
-    wrote_nothing("to buffers, 38 bytes");
-}
-
-/* The file goes into the front of what is lent, and what was changed right after it. */
-static chherbolat_answer salvage(run file, size_t length, size_t room, size_t changes_length)
-{
-    return chherbolat_salvage(file.bytes, length, lent(), room, lent_bytes + room, changes_length);
-}
-
-static void salvages(void)
-{
-    enum { CHANGES = CHHERBOLAT_CHANGES_LENGTH };
-    run file = bytes("01  00 00000000FFDFFFFF  0002  012480AB 00*9  00FFE0 00*10");
-    run wrong_kind = bytes("01  02 00000000FFDFFFFF  0002  012480AB 00*9  00FFE0 00*10");
-    run too_many = bytes("11"), none = bytes("00");
-    gives("| salvage the file into 38 bytes |", salvage(file, 38, 38, CHANGES), 38);
-    wrote("salvaged", bytes("01  00 00000000FFDFFFFF  0002  012480AB 00*9  00FFE0 00*10  00*24"));
-    gives("| salvage its first 37 bytes into 25 |", salvage(file, 37, 25, CHANGES), 25);
-    wrote("salvaged, 37 bytes", bytes("01  00 00000000FFDFFFFF  0001  012480AB 00*9  00*8 00*7 01 00*7 0C"));
-    refuses("| salvage them into 24 |", salvage(file, 37, 24, CHANGES), OUTPUT_TOO_SHORT, 25);
-    wrote_nothing("salvaged into 24");
-    gives("| salvage the file with the kind `02` into 29 |", salvage(wrong_kind, 38, 29, CHANGES), 29);
-    wrote("salvaged, kind 2", bytes("00 0002  012480AB 00*9  00FFE0 00*10  00*7 01 00*16"));
-    gives("| salvage its first 11 bytes into 12 |", salvage(file, 11, 12, CHANGES), 12);
-    wrote("salvaged, 11 bytes", bytes("01  00 00000000FFDFFFFF  0000  00*23 01"));
-    gives("| salvage its first 9 bytes into 3 |", salvage(file, 9, 3, CHANGES), 3);
-    wrote("salvaged, 9 bytes", bytes("00 0000  00*7 01 00*8 00*7 08"));
-    gives("| salvage the file `00` into 3 |", salvage(none, 1, 3, CHANGES), 3);
-    wrote("salvaged, one byte", bytes("00 0000  00*24"));
-    refuses("| salvage no bytes |", salvage(file, 0, 38, CHANGES), FILE_ENDS, 0);
-    refuses("| salvage the file `11` |", salvage(too_many, 1, 0, CHANGES), COUNT_ABOVE_LIMIT, 0);
-    refuses("| salvage the file with 23 bytes for the changes |", salvage(file, 38, 38, CHANGES - 1), WRONG_LENGTH, 2);
-    wrote_nothing("salvaged, 23 bytes");
-}
-
 static void reports(void)
 {
     run file = bytes("01  00 00000000FFDFFFFF  0002  012480AB 00*9  00FFE0 00*10");
@@ -445,32 +282,6 @@ static void reports(void)
     wrote("report on 37 bytes", characters("refused 11 at 25\n"));
 }
 
-static void load(void)
-{
-    enum { TOTALS = CHHERBOLAT_TOTALS_LENGTH, LOAD = CHHERBOLAT_LOAD_LENGTH };
-    run file = bytes("01  00 00000000FFDFFFFF  0002  012480AB 00*9  00FFE0 00*10");
-    run counted = bytes("00*7 02  00*8  00*7 01  00*7 66  00*7 78"), full = bytes("FF*8 00*32");
-    uint8_t *totals = lent();
-    memset(totals, 0, TOTALS);
-    gives("| add the file to 40 zeros |", chherbolat_load_add(totals, TOTALS, file.bytes, 38), 40);
-    wrote("totals", counted);
-    refuses("| add its first 37 bytes |", chherbolat_load_add(totals, TOTALS, file.bytes, 37), FILE_ENDS, 25);
-    wrote("totals as they were", counted);
-    refuses("| add the file to 39 bytes |", chherbolat_load_add(lent(), TOTALS - 1, file.bytes, 38), WRONG_LENGTH, 0);
-    memcpy(lent(), full.bytes, TOTALS);
-    refuses("| add the file to 2^64 - 1 standard frames |",
-            chherbolat_load_add(lent_bytes, TOTALS, file.bytes, 38), TOTAL_PASSES, 0);
-    wrote("full totals", full);
-    gives("| load, 500,000 bits a second, one second |",
-          chherbolat_load(counted.bytes, TOTALS, 500000, 1000, lent(), LOAD), 16);
-    wrote("load", bytes("000000000001D4C0 000000001DCD6500"));
-    refuses("| load, a span of zero |", chherbolat_load(counted.bytes, TOTALS, 500000, 0, lent(), LOAD), NO_TIME, 0);
-    refuses("| load, a rate and a span of 2^32 |",
-            chherbolat_load(counted.bytes, TOTALS, UINT64_C(1) << 32, UINT64_C(1) << 32, lent(), LOAD), TOTAL_PASSES, 0);
-    refuses("load, 15 bytes", chherbolat_load(counted.bytes, TOTALS, 1, 1, lent(), LOAD - 1), WRONG_LENGTH, 3);
-    wrote_nothing("load, 15 bytes");
-}
-
 int main(void)
 {
     identifiers();
@@ -480,16 +291,10 @@ int main(void)
     filters_by_patterns();
     filters_by_code_and_mask();
     filters_from_lists();
-    patterns_from_ranges();
-    joins();
     matching();
-    wakes();
     decisions();
     box();
     files();
-    records();
-    salvages();
-    load();
     reports();
     printf("c: %u answers checked\n", checked);
     return 0;

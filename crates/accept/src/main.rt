@@ -1,5 +1,6 @@
 // Reads a frame file on standard input, at most one byte more than the longest, and prints the report on it. Standard error
 // says in words why a file is refused, and behind `error:` what went wrong with input or output.
+#![tactic(auto)]
 use libc::{STDERR_FILENO, STDOUT_FILENO};
 use standard_input::Input;
 use text::Laying;

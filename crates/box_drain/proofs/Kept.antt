@@ -8,10 +8,7 @@ use lib.ListN.{length, length-set}
 use native.Mathlib.Omega.{arith}
 use borrow.Author.Tests.{ltb-true, eqb-false}
 use Rattle.box_records.specs.declared.Record.{Record}
-use Rattle.box_records.specs.Blank.{blank}
-use Rattle.box_records.specs.Number.{following, numbered}
 use Rattle.box_records.proofs.Same.{same_self}
-use Rattle.box_records.specs.Calls.{arrives, takes, starts, steps, abandons}
 use Rattle.box_queue.specs.Ring as Q
 use Rattle.box_queue.specs.Ring.{queue_limit}
 use Rattle.box_queue.proofs.Ring.{queue-ok}
@@ -27,11 +24,9 @@ use Rattle.box_state.specs.Rules.{record_of, bus_off, is_idle, phase_ok, box_ok}
 use Rattle.box_state.specs.Calls.{with_of, fresh_box, arrive_of, take_of}
 use Rattle.box_state.proofs.Rules.{Good, good-ok, ok-good, ready, make-ready, copy-front, make-copy, release-front, make-release, next-on}
 use Rattle.box_drain.specs.declared.Command.{Command}
-use Rattle.box_drain.specs.Step.{at_phase, holding, empty_handed, offering, after_notice, first_phase}
-use Rattle.box_drain.specs.Step.{notice_step, look_step, miss_step, copy_step, release_step, offer_step, finish_step, by_phase, step_of}
+use Rattle.box_drain.specs.Step.{at_phase, holding, offering, after_notice, first_phase, notice_step, look_step, miss_step, copy_step, release_step, offer_step, finish_step, by_phase, step_of}
 use Rattle.box_drain.specs.Start.{begun, start_of}
-use Rattle.box_drain.specs.Abandon.{offer_next, abandon_at, abandon_of}
-use Rattle.box_drain.specs.Run.{BoxCall, after, after_all}
+use Rattle.box_drain.specs.Run.{Call, arrives, takes, starts, steps, after, after_all}
 
 -- an arrival: its FIFO keeps the rules, and its front where there was one
 arrive-kept : (g : ReceiveBox) (frame : List ℕ) → Good g → Good (arrive_of g frame).1
@@ -125,10 +120,10 @@ module _ (g : ReceiveBox) (k : Good g) where
       }
 
   -- an offer, stored or lost
-  offered-by : (b : Bool) → ltb g.queue.count queue_limit ≡ b → (x : Record) (c : Command) (p l : P.Phase) (m : ℕ)
-      → ((q : _) → phase_ok p (empty_handed g q p m) ≡ true) → phase_ok l (empty_handed g g.queue l m) ≡ true → Good (offering g x c p l m).1
+  offered-by : (b : Bool) → ltb g.queue.count queue_limit ≡ b → (x : Record) (c : Command) (p l : P.Phase)
+      → ((q : _) → phase_ok p (with_of g g.fifo q p g.held) ≡ true) → phase_ok l (at_phase g l) ≡ true → Good (offering g x c p l).1
   unfolding offering Q.offer_of
-  offered-by true e x c p l m hp hl =
+  offered-by true e x c p l hp hl =
       let n = ltb-true g.queue.count queue_limit e in
       rw (queue-ok queue_limit g.queue k.queue, e)
       (record {
@@ -138,21 +133,17 @@ module _ (g : ReceiveBox) (k : Good g) where
         entries = k.entries;
         places = length-set g.queue.places ((g.queue.head + g.queue.count) % queue_limit) x ∙ k.places;
       })
-  offered-by false e x c p l m hp hl =
-      rw (queue-ok queue_limit g.queue k.queue, e)
-      (record { fifo = k.fifo; queue = k.queue; next = hl; entries = k.entries; places = k.places })
+  offered-by false e x c p l hp hl = rw (queue-ok queue_limit g.queue k.queue, e) (still l g.held hl)
 
   offer-kept : receive_due g.words ≡ true → Good (offer_step g).1
   unfolding offer_step
-  offer-kept r = offered-by (ltb g.queue.count queue_limit) refl g.held _ phase.Look phase.Finish g.next (λ q. r) refl
+  offer-kept r = offered-by (ltb g.queue.count queue_limit) refl g.held _ phase.Look phase.Finish (λ q. r) refl
 
   notice-kept : Good (notice_step g).1
   unfolding notice_step
   notice-kept =
       let p = after_notice g.words in
-      let m = following g.next in
-      offered-by (ltb g.queue.count queue_limit) refl (numbered g.next bus_off) _ p p m
-      (λ q. after_next (empty_handed g q p m)) (after_next (empty_handed g g.queue p m))
+      offered-by (ltb g.queue.count queue_limit) refl bus_off _ p p (λ q. after_next (with_of g g.fifo q p g.held)) (after_next (at_phase g p))
 
   copy-kept : receive_due g.words ≡ true → 0 < g.fifo.count → Good (copy_step g).1
   unfolding copy_step
@@ -176,29 +167,18 @@ module _ (g : ReceiveBox) (k : Good g) where
   unfolding step_of
   step_kept = rw (good-ok g k) (by-phase-kept g.phase k.next)
 
-  -- an abandonment
-  abandoned-at : (i o : Bool) (p : P.Phase) → is_idle p ≡ i → offer_next p ≡ o → Good (abandon_at p g).1
-  abandoned-at true o p e f = rw e k
-  abandoned-at false true p e f = rw (e, f) (still phase.Idle blank refl)
-  abandoned-at false false p e f = rw (e, f) (still phase.Idle blank refl)
-
-  abandon-kept : Good (abandon_of g).1
-  unfolding abandon_of
-  abandon-kept = rw (good-ok g k) (abandoned-at (is_idle g.phase) (offer_next g.phase) g.phase refl refl)
-
 -- ONE CALL
-pub good-kept : (g : ReceiveBox) (c : BoxCall) → Good g → Good (after g c)
+pub good-kept : (g : ReceiveBox) (c : Call) → Good g → Good (after g c)
 good-kept g (arrives frame) k = arrive-kept g frame k
 good-kept g takes k = taken-by g k (ltb 0 g.queue.count) refl
 good-kept g (starts w) k = started-by g w k (is_idle g.phase) refl
 good-kept g steps k = step_kept g k
-good-kept g abandons k = abandon-kept g k
 
-pub rules-kept : (g : ReceiveBox) (c : BoxCall) → length g.fifo.entries ≡ entry_limit → length g.queue.places ≡ queue_limit → box_ok g ≡ true → box_ok (after g c) ≡ true
+pub rules-kept : (g : ReceiveBox) (c : Call) → length g.fifo.entries ≡ entry_limit → length g.queue.places ≡ queue_limit → box_ok g ≡ true → box_ok (after g c) ≡ true
 rules-kept g c es ps e = good-ok (after g c) (good-kept g c (ok-good g e es ps))
 
 -- A SEQUENCE, and one from a fresh box
-pub good-from : (cs : List BoxCall) (g : ReceiveBox) → Good g → Good (after_all g cs)
+pub good-from : (cs : List Call) (g : ReceiveBox) → Good g → Good (after_all g cs)
 good-from [] g k = k
 good-from (c ∷ cs) g k = good-from cs (after g c) (good-kept g c k)
 
@@ -213,5 +193,5 @@ fresh-good =
       places = refl;
     }
 
-pub rules-for-ever : (cs : List BoxCall) → box_ok (after_all fresh_box cs) ≡ true
+pub rules-for-ever : (cs : List Call) → box_ok (after_all fresh_box cs) ≡ true
 rules-for-ever cs = good-ok (after_all fresh_box cs) (good-from cs fresh_box fresh-good)

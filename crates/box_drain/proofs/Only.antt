@@ -1,7 +1,6 @@
--- An answer to a start, to a step or to an abandonment is told by what is said of it, so two that meet a contract are equal. Assumes nothing.
+-- An answer to a start, or to a step, is told by what is said of it, so two that meet a contract are equal. Assumes nothing.
 use Prim.{Unit}
 use mathlib.Core.Path.{◌≡◌, refl, ap}
-use mathlib.Core.Bool.{Bool, true, false}
 use Rattle.laws.specs.Said.{Said, refuses, gives}
 use Rattle.laws.proofs.Only.{only}
 use Rattle.refusals.proofs.Only.{refusal_at, refusal-at}
@@ -14,11 +13,6 @@ use Rattle.box_drain.specs.declared.Stepping.{Stepping}
 use Rattle.box_drain.specs.declared.Stepping.TheVariants as stepping
 use Rattle.box_drain.specs.declared.StepAnswer.{StepAnswer}
 use Rattle.box_drain.specs.declared.Stepped.{Stepped}
-use Rattle.box_drain.specs.declared.Abandoning.{Abandoning}
-use Rattle.box_drain.specs.declared.Abandoning.TheVariants as abandoning
-use Rattle.box_drain.specs.declared.AbandonAnswer.{AbandonAnswer}
-use Rattle.box_drain.specs.declared.Abandoned.{Abandoned}
-use Rattle.box_drain.specs.Abandon.{AbandonSaid, abandoning_said, abandon_said, abandoned_said}
 use Rattle.box_drain.specs.Answers.{Told, done, lost, finished, stepping_said, StepSaid, step_said, stepped_said}
 
 starting_back : Said (Unit {0}) → Starting
@@ -69,31 +63,3 @@ stepped-back r = rw (step_back r.answer)
 
 pub only-stepped : (r s : Stepped) → stepped_said r ≡ stepped_said s → r ≡ s
 only-stepped = only stepped_said stepped_back stepped-back
-
-abandoning_back : Said Bool → Abandoning
-abandoning_back (gives false) = abandoning.NoneLost
-abandoning_back (gives true) = abandoning.Lost
-abandoning_back (refuses k n) = abandoning.Refused (refusal_at k n)
-
-abandoning-back : (a : Abandoning) → abandoning_back (abandoning_said a) ≡ a
-unfolding abandoning_back
-abandoning-back abandoning.NoneLost = refl
-abandoning-back abandoning.Lost = refl
-abandoning-back (abandoning.Refused f) = ap abandoning.Refused (refusal-at f)
-
-abandon_back : AbandonSaid → AbandonAnswer
-abandon_back p = record { abandoning = abandoning_back p.0; lost = p.1 }
-
-abandon-back : (a : AbandonAnswer) → abandon_back (abandon_said a) ≡ a
-unfolding abandon_back
-abandon-back a = rw (abandoning-back a.abandoning)
-
-abandoned_back : AbandonSaid × ReceiveBox → Abandoned
-abandoned_back p = record { answer = abandon_back p.0; state = p.1 }
-
-abandoned-back : (r : Abandoned) → abandoned_back (abandoned_said r) ≡ r
-unfolding abandoned_back
-abandoned-back r = rw (abandon-back r.answer)
-
-pub only-abandoned : (r s : Abandoned) → abandoned_said r ≡ abandoned_said s → r ≡ s
-only-abandoned = only abandoned_said abandoned_back abandoned-back

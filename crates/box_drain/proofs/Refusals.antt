@@ -7,7 +7,6 @@ use mathlib.Core.List.{List}
 use mathlib.Core.Option.{none, some}
 use lib.Dec.{ltb}
 use Rattle.laws.proofs.Bools.{both_true}
-use Rattle.box_records.specs.Calls.{arrives, takes, starts, steps, abandons}
 use Rattle.box_queue.specs.Ring as Q
 use Rattle.box_queue.specs.Ring.{queue_limit, queue_ok}
 use Rattle.box_fifo.specs.Ring.{fifo_ok}
@@ -19,8 +18,7 @@ use Rattle.box_state.specs.Rules.{is_idle, phase_ok, box_ok}
 use Rattle.box_state.specs.Calls.{fresh_box, arrive_of, take_of}
 use Rattle.box_drain.specs.Step.{offering, notice_step, look_step, miss_step, copy_step, release_step, offer_step, finish_step, by_phase, step_of}
 use Rattle.box_drain.specs.Start.{start_of}
-use Rattle.box_drain.specs.Abandon.{offer_next, abandon_at, abandon_of}
-use Rattle.box_drain.specs.Run.{BoxCall, refused_with, refusal_of, after, after_all, untimely, refusal_due}
+use Rattle.box_drain.specs.Run.{Call, arrives, takes, starts, steps, refused_with, refusal_of, after, after_all, untimely, refusal_due}
 use Rattle.box_drain.proofs.Kept.{rules-for-ever}
 
 module _ (g : ReceiveBox) where
@@ -74,23 +72,12 @@ module _ (g : ReceiveBox) where
   step_by true e = rw e (phase-by g.phase e)
   step_by false e = rw e
 
-  abandon-at : (i o : Bool) (p : P.Phase) → is_idle p ≡ i → offer_next p ≡ o → refused_with (abandon_at p g).0.0 ≡ untimely abandons i
-  abandon-at true o p e f = rw e
-  abandon-at false true p e f = rw (e, f)
-  abandon-at false false p e f = rw (e, f)
-
-  abandon-by : (b : Bool) → box_ok g ≡ b → refusal_of g abandons ≡ cond b (untimely abandons (is_idle g.phase)) (some 10)
-  unfolding abandon_of
-  abandon-by true e = rw e (abandon-at (is_idle g.phase) (offer_next g.phase) g.phase refl refl)
-  abandon-by false e = rw e
-
-pub refused-exactly : (g : ReceiveBox) (c : BoxCall) → refusal_of g c ≡ refusal_due g c
+pub refused-exactly : (g : ReceiveBox) (c : Call) → refusal_of g c ≡ refusal_due g c
 unfolding refusal_due
 refused-exactly g (arrives frame) = arrive-by g frame (box_ok g) refl
 refused-exactly g takes = take_by g (box_ok g) (ltb 0 g.queue.count) refl refl
 refused-exactly g (starts w) = start-by g w (box_ok g) (is_idle g.phase) refl refl
 refused-exactly g steps = step_by g (box_ok g) refl
-refused-exactly g abandons = abandon-by g (box_ok g) refl
 
 -- a call that is refused hands the box back
 idle-step : (p : P.Phase) (g : ReceiveBox) → is_idle p ≡ true → (by_phase p g).1 ≡ g
@@ -119,16 +106,11 @@ step-broken : (g : ReceiveBox) → box_ok g ≡ false → (step_of g).1 ≡ g
 unfolding step_of
 step-broken g e = rw e
 
-abandon-broken : (g : ReceiveBox) → box_ok g ≡ false → (abandon_of g).1 ≡ g
-unfolding abandon_of
-abandon-broken g e = rw e
-
-broken-back : (g : ReceiveBox) (c : BoxCall) → box_ok g ≡ false → after g c ≡ g
+broken-back : (g : ReceiveBox) (c : Call) → box_ok g ≡ false → after g c ≡ g
 broken-back g (arrives frame) e = arrive-broken g frame e
 broken-back g takes e = take-broken g e
 broken-back g (starts w) e = start-broken g w e
 broken-back g steps e = step-broken g e
-broken-back g abandons e = abandon-broken g e
 
 start_back : (g : ReceiveBox) (w : Words) (n : ℕ) (b : Bool) → is_idle g.phase ≡ b → box_ok g ≡ true → cond b none (some 8) ≡ some n → (start_of g w).1 ≡ g
 unfolding start_of
@@ -140,30 +122,24 @@ unfolding step_of
 step_back g n true i e h = rw e (idle-step g.phase g i)
 step_back g n false i e h = cc
 
-abandon-back : (g : ReceiveBox) (n : ℕ) (b : Bool) → is_idle g.phase ≡ b → box_ok g ≡ true → cond b (some 9) none ≡ some n → (abandon_of g).1 ≡ g
-unfolding abandon_of
-abandon-back g n true i e h = rw (e, i)
-abandon-back g n false i e h = cc
-
-untimely-back : (g : ReceiveBox) (c : BoxCall) (n : ℕ) → box_ok g ≡ true → untimely c (is_idle g.phase) ≡ some n → after g c ≡ g
+untimely-back : (g : ReceiveBox) (c : Call) (n : ℕ) → box_ok g ≡ true → untimely c (is_idle g.phase) ≡ some n → after g c ≡ g
 untimely-back g (arrives frame) n e h = cc
 untimely-back g takes n e h = cc
 untimely-back g (starts w) n e h = start_back g w n (is_idle g.phase) refl e h
 untimely-back g steps n e h = step_back g n (is_idle g.phase) refl e h
-untimely-back g abandons n e h = abandon-back g n (is_idle g.phase) refl e h
 
-back_by : (g : ReceiveBox) (c : BoxCall) (n : ℕ) (b : Bool) → box_ok g ≡ b → refusal_due g c ≡ some n → after g c ≡ g
+back_by : (g : ReceiveBox) (c : Call) (n : ℕ) (b : Bool) → box_ok g ≡ b → refusal_due g c ≡ some n → after g c ≡ g
 unfolding refusal_due
 back_by g c n true e h = untimely-back g c n e (rw e at h)
 back_by g c n false e h = broken-back g c e
 
-pub refusal-changes-nothing : (g : ReceiveBox) (c : BoxCall) (n : ℕ) → refusal_of g c ≡ some n → after g c ≡ g
+pub refusal-changes-nothing : (g : ReceiveBox) (c : Call) (n : ℕ) → refusal_of g c ≡ some n → after g c ≡ g
 refusal-changes-nothing g c n h = back_by g c n (box_ok g) refl (sym (refused-exactly g c) ∙ h)
 
--- after any calls from a fresh box a refusal is 8 for a start while a drain runs, or 9 for a step or an abandonment while none runs
-due-good : (g : ReceiveBox) (c : BoxCall) → box_ok g ≡ true → refusal_due g c ≡ untimely c (is_idle g.phase)
+-- after any calls from a fresh box a refusal is 8 for a start while a drain runs, or 9 for a step while none runs
+due-good : (g : ReceiveBox) (c : Call) → box_ok g ≡ true → refusal_due g c ≡ untimely c (is_idle g.phase)
 unfolding refusal_due
 due-good g c e = rw e
 
-pub refused-only : (cs : List BoxCall) (c : BoxCall) → refusal_of (after_all fresh_box cs) c ≡ untimely c (is_idle (after_all fresh_box cs).phase)
+pub refused-only : (cs : List Call) (c : Call) → refusal_of (after_all fresh_box cs) c ≡ untimely c (is_idle (after_all fresh_box cs).phase)
 refused-only cs c = let g = after_all fresh_box cs in refused-exactly g c ∙ due-good g c (rules-for-ever cs)

@@ -12,9 +12,9 @@ use Rattle.box_drain.specs.declared.Starting.{Starting}
 use Rattle.box_drain.specs.declared.Starting.TheVariants as starting
 use Rattle.box_drain.specs.declared.Started.{Started}
 
--- a start stores its words; the next number stays
+-- a start stores its words
 abbrev pub begun : ReceiveBox → Words → ReceiveBox
-begun g w = record { fifo = g.fifo; queue = g.queue; phase = first_phase w; held = g.held; words = w; next = g.next }
+begun g w = record { fifo = g.fifo; queue = g.queue; phase = first_phase w; held = g.held; words = w }
 
 unfoldable pub start_of : ReceiveBox → Words → Said (Unit {0}) × ReceiveBox
 start_of g w = cond (box_ok g) (cond (is_idle g.phase) (gives tt, begun g w) (refuses 8 [], g)) (refuses 10 [], g)

@@ -1,5 +1,5 @@
-// A drain of the box, by value: its start, the step that comes next, and its end before time.
-mod abandonment;
+// A drain of the box, by value: its start, and the step that comes next.
+#![tactic(auto)]
 mod answers;
 mod offers;
 mod steps;
@@ -9,7 +9,6 @@ ghost use Rattle.box_state.specs.Rules.{is_idle};
 ghost use Rattle.box_drain.specs.Answers.{stepped_said};
 ghost use Rattle.box_drain.specs.Step.{first_phase, step_of};
 ghost use Rattle.box_drain.specs.Start.{started_said, start_of};
-ghost use Rattle.box_drain.specs.Abandon.{abandoned_said, abandon_of};
 
 use box_records::Record;
 use box_state::{Phase, ReceiveBox};
@@ -54,26 +53,6 @@ pub enum Starting {
 #[derive(Drop)]
 pub struct Started {
     pub answer: Starting,
-    pub state: ReceiveBox,
-}
-
-#[derive(Drop)]
-pub enum Abandoning {
-    NoneLost,
-    Lost,
-    Refused(Refusal),
-}
-
-// The lost record stands beside the enum: blank where none is lost.
-#[derive(Drop)]
-pub struct AbandonAnswer {
-    pub abandoning: Abandoning,
-    pub lost: Record,
-}
-
-#[derive(Drop)]
-pub struct Abandoned {
-    pub answer: AbandonAnswer,
     pub state: ReceiveBox,
 }
 
@@ -148,23 +127,4 @@ pub fn step(state: ReceiveBox) -> Stepped
         };
     }
     answers::refused(Refusal::BrokenState, state)
-}
-
-// The drain that runs is abandoned. A record that it has released and not yet offered is lost, and named.
-pub fn abandon(state: ReceiveBox) -> Abandoned
-    ensures { abandoned_said result ≡ abandon_of state }
-{
-    let none = Record::blank();
-    if state.valid() {
-        let phase = state.phase;
-        if is_idle(phase) {
-            return abandonment::told(Abandoning::Refused(Refusal::NoDrainRuns), none, state);
-        }
-        let after = abandonment::stopped(state, none);
-        if abandonment::offer_next(phase) {
-            return abandonment::told(Abandoning::Lost, state.held, after);
-        }
-        return abandonment::told(Abandoning::NoneLost, none, after);
-    }
-    abandonment::told(Abandoning::Refused(Refusal::BrokenState), none, state)
 }

@@ -1,8 +1,7 @@
 // The steps of a drain that offer a record to the queue, each on the whole box: which comes next is not judged here.
 ghost use Rattle.std.specs.Prelude.{◌≡◌};
-ghost use Rattle.box_records.specs.Number.{numbered};
 ghost use Rattle.box_state.specs.Rules.{bus_off};
-ghost use Rattle.box_state.specs.Calls.{with_of, counting_on};
+ghost use Rattle.box_state.specs.Calls.{with_of};
 ghost use Rattle.box_drain.specs.Answers.{stepped_said};
 ghost use Rattle.box_drain.specs.Step.{offering, after_notice, notice_step, offer_step};
 
@@ -12,53 +11,46 @@ use box_records::{Record, RecordError, RecordKind};
 use box_state::{Phase, ReceiveBox};
 use box_words::Words;
 
-fn bus_off(number: u32) -> Record
-    ensures { result ≡ numbered number bus_off }
+fn bus_off() -> Record
+    ensures { result ≡ bus_off }
 {
     Record {
         kind: RecordKind::Error(RecordError::BusOff),
         bytes: [0; 13],
-        number: number,
     }
 }
 
-fn with_queue(state: ReceiveBox, queue: Queue, phase: Phase, hand: Record, next: u32) -> ReceiveBox
-    ensures { result ≡ with_of (counting_on state next) state.fifo queue phase hand }
+fn with_queue(state: ReceiveBox, queue: Queue, phase: Phase) -> ReceiveBox
+    ensures { result ≡ with_of state state.fifo queue phase state.held }
 {
     ReceiveBox {
         queue: queue,
         phase: phase,
-        held: hand,
-        next: next,
         ..state
     }
 }
 
-// Offers a record to the queue, and goes on at one of two steps with nothing held, and with the number that comes next.
+// Offers a record to the queue, and goes on at one of two steps.
 fn offer_record(
     state: ReceiveBox,
     offered: Record,
     command: Command,
     stored: Phase,
     lost: Phase,
-    next: u32,
 ) -> Stepped
-    ensures { stepped_said result ≡ offering state offered command stored lost next }
+    ensures { stepped_said result ≡ offering state offered command stored lost }
 {
     let queue = state.queue;
     let out = queue.offer(offered);
     let after = out.state;
     let answer = out.answer;
     match answer {
-        Offering::Stored => answers::quiet(
-            command,
-            with_queue(state, after, stored, Record::blank(), next),
-        ),
+        Offering::Stored => answers::quiet(command, with_queue(state, after, stored)),
         Offering::Lost => answers::told(
             Stepping::Lost,
             command,
             offered,
-            with_queue(state, after, lost, Record::blank(), next),
+            with_queue(state, after, lost),
         ),
         Offering::Refused(refusal) => answers::refused(refusal, state),
     }
@@ -73,29 +65,18 @@ pub(crate) fn after_notice(words: Words) -> Phase
     Phase::Finish
 }
 
-// A notice gets its number when it is offered.
 pub(crate) fn notice_step(state: ReceiveBox) -> Stepped
     ensures { stepped_said result ≡ notice_step state }
 {
     let words = state.words;
-    let on = after_notice(words);
-    let number = state.next;
-    let notice = bus_off(number);
-    let following = box_records::following(number);
-    offer_record(state, notice, Command::Abort, on, on, following)
+    let next = after_notice(words);
+    let notice = bus_off();
+    offer_record(state, notice, Command::Abort, next, next)
 }
 
 pub(crate) fn offer_step(state: ReceiveBox) -> Stepped
     ensures { stepped_said result ≡ offer_step state }
 {
     let held = state.held;
-    let next = state.next;
-    offer_record(
-        state,
-        held,
-        Command::Nothing,
-        Phase::Look,
-        Phase::Finish,
-        next,
-    )
+    offer_record(state, held, Command::Nothing, Phase::Look, Phase::Finish)
 }

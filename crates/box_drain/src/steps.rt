@@ -59,24 +59,17 @@ pub(crate) fn copy_step(state: ReceiveBox) -> Stepped
     answers::quiet(Command::Nothing, holding(state, copy))
 }
 
-// The held record gets the next number.
 pub(crate) fn release_step(state: ReceiveBox) -> Stepped
     ensures { stepped_said result ≡ release_step state }
 {
     let fifo = state.fifo;
     let rest = fifo.release();
-    let held = state.held;
-    let number = state.next;
-    let numbered = held.numbered(number);
-    let following = box_records::following(number);
-    let released = ReceiveBox {
+    let next = ReceiveBox {
         fifo: rest,
         phase: Phase::Offer,
-        held: numbered,
-        next: following,
         ..state
     };
-    answers::quiet(Command::Release, released)
+    answers::quiet(Command::Release, next)
 }
 
 pub(crate) fn finish_step(state: ReceiveBox) -> Stepped

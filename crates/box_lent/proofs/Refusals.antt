@@ -3,21 +3,19 @@
 use Prim.Native.Nat.{ℕ}
 use mathlib.Core.Path.{◌≡◌, ap, sym, ◌∙◌}
 use mathlib.Core.Option.{some}
-use Rattle.box_records.specs.Calls.{arrives, takes, starts, steps, abandons}
 use Rattle.box_state.specs.declared.ReceiveBox.{ReceiveBox}
-use Rattle.box_drain.specs.Run.{BoxCall, refused_with, refusal_of, after}
+use Rattle.box_drain.specs.Run.{Call, arrives, takes, starts, steps, refused_with, refusal_of, after}
 use Rattle.box_drain.proofs.Refusals.{refusal-changes-nothing}
 use Rattle.box_lent.specs.Calls.{AnswerTo, call_lent, refused_in}
 
 -- what is answered and what is stored are those of the call by value
-answered : (c : BoxCall) (entry : ReceiveBox) (answer : AnswerTo c) (exit : ReceiveBox) → call_lent c entry answer exit → (refused_in c answer ≡ refusal_of entry c) × (exit ≡ after entry c)
+answered : (c : Call) (entry : ReceiveBox) (answer : AnswerTo c) (exit : ReceiveBox) → call_lent c entry answer exit → (refused_in c answer ≡ refusal_of entry c) × (exit ≡ after entry c)
 answered (arrives frame) entry answer exit p = (ap (λ x. refused_with x) p.0, p.1)
 answered takes entry answer exit p = (ap (λ x. refused_with x.0) p.0, p.1)
 answered (starts words) entry answer exit p = (ap (λ x. refused_with x) p.0, p.1)
 answered steps entry answer exit p = (ap (λ x. refused_with x.0) p.0, p.1)
-answered abandons entry answer exit p = (ap (λ x. refused_with x.0) p.0, p.1)
 
-pub refusal-leaves-the-box : (c : BoxCall) (entry : ReceiveBox) (answer : AnswerTo c) (exit : ReceiveBox) (n : ℕ) → call_lent c entry answer exit → refused_in c answer ≡ some n → exit ≡ entry
+pub refusal-leaves-the-box : (c : Call) (entry : ReceiveBox) (answer : AnswerTo c) (exit : ReceiveBox) (n : ℕ) → call_lent c entry answer exit → refused_in c answer ≡ some n → exit ≡ entry
 refusal-leaves-the-box c entry answer exit n p refused =
     let out = answered c entry answer exit p in
     out.1 ∙ refusal-changes-nothing entry c n (sym out.0 ∙ refused)

@@ -1,8 +1,7 @@
 -- Calls on a lent box: of the box at entry, what is answered and the box at exit.
--- Source: the outline, "The box", and refusals 8, 9 and 10; request #109.
+-- Source: the outline, "The box", and refusals 8, 9 and 10.
 use Rattle.std.specs.Prelude.{ℕ, ◌≡◌, List}
 use Rattle.std.proofs.Math.Option.{Option}
-use Rattle.box_records.specs.Calls.{arrives, takes, starts, steps, abandons}
 use Rattle.box_queue.specs.declared.TakeAnswer.{TakeAnswer}
 use Rattle.box_queue.specs.Ring.{take_said}
 use Rattle.box_words.specs.declared.Words.{Words}
@@ -14,9 +13,7 @@ use Rattle.box_drain.specs.Answers.{step_said}
 use Rattle.box_drain.specs.Step.{step_of}
 use Rattle.box_drain.specs.declared.Starting.{Starting}
 use Rattle.box_drain.specs.Start.{starting_said, start_of}
-use Rattle.box_drain.specs.declared.AbandonAnswer.{AbandonAnswer}
-use Rattle.box_drain.specs.Abandon.{abandon_said, abandon_of}
-use Rattle.box_drain.specs.Run.{BoxCall, refused_with}
+use Rattle.box_drain.specs.Run.{Call, arrives, takes, starts, steps, refused_with}
 
 abbrev pub arrive_lent : ReceiveBox → List ℕ → Arriving → ReceiveBox → Type 0
 arrive_lent entry frame answer exit = (arriving_said answer ≡ (arrive_of entry frame).0) × (exit ≡ (arrive_of entry frame).1)
@@ -30,27 +27,21 @@ start_lent entry words answer exit = (starting_said answer ≡ (start_of entry w
 abbrev pub step_lent : ReceiveBox → StepAnswer → ReceiveBox → Type 0
 step_lent entry answer exit = (step_said answer ≡ (step_of entry).0) × (exit ≡ (step_of entry).1)
 
-abbrev pub abandon_lent : ReceiveBox → AbandonAnswer → ReceiveBox → Type 0
-abandon_lent entry answer exit = (abandon_said answer ≡ (abandon_of entry).0) × (exit ≡ (abandon_of entry).1)
-
 -- any call: its answer, what the call promises, and the number that an answer refuses with
-abbrev pub AnswerTo : BoxCall → Type 0
+abbrev pub AnswerTo : Call → Type 0
 AnswerTo (arrives frame) = Arriving
 AnswerTo takes = TakeAnswer
 AnswerTo (starts words) = Starting
 AnswerTo steps = StepAnswer
-AnswerTo abandons = AbandonAnswer
 
-abbrev pub call_lent : (c : BoxCall) → ReceiveBox → AnswerTo c → ReceiveBox → Type 0
+abbrev pub call_lent : (c : Call) → ReceiveBox → AnswerTo c → ReceiveBox → Type 0
 call_lent (arrives frame) entry answer exit = arrive_lent entry frame answer exit
 call_lent takes entry answer exit = take_lent entry answer exit
 call_lent (starts words) entry answer exit = start_lent entry words answer exit
 call_lent steps entry answer exit = step_lent entry answer exit
-call_lent abandons entry answer exit = abandon_lent entry answer exit
 
-abbrev pub refused_in : (c : BoxCall) → AnswerTo c → Option ℕ
+abbrev pub refused_in : (c : Call) → AnswerTo c → Option ℕ
 refused_in (arrives frame) answer = refused_with (arriving_said answer)
 refused_in takes answer = refused_with (take_said answer).0
 refused_in (starts words) answer = refused_with (starting_said answer)
 refused_in steps answer = refused_with (step_said answer).0
-refused_in abandons answer = refused_with (abandon_said answer).0

@@ -1,7 +1,8 @@
 // The box lent by its caller: each call makes the call by value, and stores the box that comes of it.
-ghost use Rattle.box_lent.specs.Calls.{arrive_lent, take_lent, start_lent, step_lent, abandon_lent};
+#![tactic(auto)]
+ghost use Rattle.box_lent.specs.Calls.{arrive_lent, take_lent, start_lent, step_lent};
 
-use box_drain::{AbandonAnswer, Starting, StepAnswer};
+use box_drain::{Starting, StepAnswer};
 use box_queue::TakeAnswer;
 use box_state::{Arriving, ReceiveBox};
 use box_words::Words;
@@ -40,13 +41,4 @@ pub fn step(state: &mut ReceiveBox) -> StepAnswer
     let stepped = box_drain::step(*state);
     *state = stepped.state;
     stepped.answer
-}
-
-// The drain that runs is abandoned. A record that it has released and not yet offered is lost, and named.
-pub fn abandon(state: &mut ReceiveBox) -> AbandonAnswer
-    ensures { abandon_lent state.old result state.new }
-{
-    let abandoned = box_drain::abandon(*state);
-    *state = abandoned.state;
-    abandoned.answer
 }

@@ -1,11 +1,4 @@
-pub mod Collect
 pub mod Demand
-pub mod Heard
 pub mod Places
 pub mod Content
-pub mod Numbers
 pub mod RuledOut
-pub mod Invoice
-pub mod Joined
-pub mod NeverTwice
-pub mod MorePlaces

@@ -9,27 +9,14 @@ use lib.ListN.{length, length-map, get_or}
 use lib.Dec.{leb, ltb, eqb, eqb→eq, eqb_refl, T}
 use native.Mathlib.Omega.{arith}
 use Rattle.laws.specs.Row.{bit}
-use Rattle.box_records.specs.Calls.{arrives, takes, starts, steps, abandons}
 use Rattle.box_fifo.specs.Ring.{entry_limit, weight_limit, Outcome, not_recorded, marked, stored}
-use Rattle.box_model.specs.Lists.{Kit, weight, entered, enter, offered, offer, arrived, took, noticed, moved, dropped, nothing}
-use Rattle.box_model.specs.Calls.{KitCall, Phase, to_notice, to_look, to_miss, to_copy, to_release, to_offer, to_finish, Drain, idle, busy, Box, box, lists, drain_of, fresh, Event, did, started, quiet, released, ended, abandoned, refused, moving, first, after_offer, after_miss, stepped, between, call, run, end}
+use Rattle.box_model.specs.Lists.{Kit, weight, entered, enter, offered, offer, arrived, took, noticed, moved, nothing}
+use Rattle.box_model.specs.Calls.{Call, arrives, takes, start, step, Phase, to_notice, to_look, to_miss, to_copy, to_release, to_offer, to_finish, Drain, idle, busy, Box, box, drain_of, fresh, Event, did, started, quiet, released, refused, moving, first, after_offer, after_miss, stepped, call, run, end}
 use Rattle.box_model.specs.Log.{actions}
-use Rattle.box_model.specs.Places.{made, recorded, removed, all_lost, sum, sum_e, flag, tag, positioned, bare_option, bare_event, bare_phase, bare_drain, bare_entries, bare_records, bare_box, bare_call, is_at, times, positioned_run, positioned_dids, positioned_end, recorded_at, taken, lost, queued, in_fifo, Placed}
-use Rattle.box_model.proofs.Demand.{whole-actions, sum_e-append, kept, Still, still-start, still-call, still-take, still-abandon}
+use Rattle.box_model.specs.Places.{made, recorded, sum_e, counted, flag, tag, number, bare_option, bare_event, bare_phase, bare_drain, bare_entries, bare_records, bare_box, bare_call, count_at, numbered_end, Placed}
+use Rattle.box_model.proofs.Demand.{whole-actions, sum_e-append, kept, Still, still-start, still-call, still-take}
 
 module _ (K : Kit) where
-  -- how often a position stands among records with positions, as a measure of them
-  abbrev pub count_at : ℕ → Option ℕ × K.Record → ℕ
-  count_at p r = is_at p r.0
-
-  pub times-records : (p : ℕ) (rs : List (Option ℕ × K.Record)) → times p (map (λ r. r.0) rs) ≡ sum (tag K) (count_at p) rs
-  times-records p [] = refl
-  times-records p (r ∷ rs) = rw (times-records p rs)
-
-  times-entries : (p : ℕ) (es : List (ℕ × K.Entry)) → times p (map (λ e. some e.0) es) ≡ sum_e (tag K) (count_at p) es
-  times-entries p [] = refl
-  times-entries p (e ∷ es) = rw (times-entries p es)
-
   abbrev bare_step : Event (tag K) × Box (tag K) → Event K × Box K
   bare_step x = (bare_event K x.0, bare_box K x.1)
 
@@ -74,59 +61,46 @@ module _ (K : Kit) where
   after_miss-erase true r = refl
   after_miss-erase false r = refl
 
-  between-erase : (p : Phase (tag K)) → between K (bare_phase K p) ≡ bare_option K (between (tag K) p)
-  between-erase to_notice = refl
-  between-erase to_look = refl
-  between-erase to_miss = refl
-  between-erase to_copy = refl
-  between-erase (to_release r) = refl
-  between-erase (to_offer r) = refl
-  between-erase to_finish = refl
+  step-erase : (p : Phase (tag K)) (f : List (ℕ × K.Entry)) (q : List (Option ℕ × K.Record)) (w : K.Words)
+      → stepped K (bare_entries K f) (bare_records K q) w (bare_phase K p) ≡ bare_step (stepped (tag K) f q w p)
+  step-erase to_notice f q w = rw (offer-erase q (none, K.bus_off), moving-erase)
+  step-erase to_look [] q w = refl
+  step-erase to_look (e ∷ f) q w = refl
+  step-erase to_miss [] q w = refl
+  step-erase to_miss (e ∷ f) q w = rw (after_miss-erase (K.is_whole e.1) (some e.0, K.copy e.1))
+  step-erase to_copy [] q w = refl
+  step-erase to_copy (e ∷ f) q w = refl
+  step-erase (to_release r) [] q w = refl
+  step-erase (to_release r) (e ∷ f) q w = refl
+  step-erase (to_offer r) f q w = rw (offer-erase q r, after_offer-erase)
+  step-erase to_finish f q w = refl
 
-  step-erase : (p : Phase (tag K)) (f : List (ℕ × K.Entry)) (q : List (Option ℕ × K.Record)) (m : ℕ) (w : K.Words)
-      → stepped K (bare_entries K f) (bare_records K q) m w (bare_phase K p) ≡ bare_step (stepped (tag K) f q m w p)
-  step-erase to_notice f q m w = rw (offer-erase q (none, K.stamp m K.bus_off), moving-erase)
-  step-erase to_look [] q m w = refl
-  step-erase to_look (e ∷ f) q m w = refl
-  step-erase to_miss [] q m w = refl
-  step-erase to_miss (e ∷ f) q m w = rw (after_miss-erase (K.is_whole e.1) (some e.0, K.copy e.1))
-  step-erase to_copy [] q m w = refl
-  step-erase to_copy (e ∷ f) q m w = refl
-  step-erase (to_release r) [] q m w = refl
-  step-erase (to_release r) (e ∷ f) q m w = refl
-  step-erase (to_offer r) f q m w = rw (offer-erase q r, after_offer-erase)
-  step-erase to_finish f q m w = refl
+  call-erase : (b : Box (tag K)) (c : Call (tag K)) → call K (bare_box K b) (bare_call K c) ≡ bare_step (call (tag K) b c)
+  call-erase (box f q d) (arrives a) = rw (enter-erase f a)
+  call-erase (box f [] d) takes = refl
+  call-erase (box f (r ∷ q) d) takes = refl
+  call-erase (box f q idle) (start w) = rw (first-erase (K.due w) (K.receive w))
+  call-erase (box f q (busy v p)) (start w) = refl
+  call-erase (box f q idle) step = refl
+  call-erase (box f q (busy w p)) step = step-erase p f q w
 
-  call-erase : (b : Box (tag K)) (c : KitCall (tag K)) → call K (bare_box K b) (bare_call K c) ≡ bare_step (call (tag K) b c)
-  call-erase (box f q m d) (arrives a) = rw (enter-erase f a)
-  call-erase (box f [] m d) takes = refl
-  call-erase (box f (r ∷ q) m d) takes = refl
-  call-erase (box f q m idle) (starts w) = rw (first-erase (K.due w) (K.receive w))
-  call-erase (box f q m (busy v p)) (starts w) = refl
-  call-erase (box f q m idle) steps = refl
-  call-erase (box f q m (busy w p)) steps = step-erase p f q m w
-  call-erase (box f q m idle) abandons = refl
-  call-erase (box f q m (busy w p)) abandons = rw (between-erase p)
-
-  pub run-erase : (cs : List (KitCall K)) (b : Box (tag K)) (n : ℕ) → run K (bare_box K b) cs ≡ map (bare_event K) (run (tag K) b (positioned K n cs))
+  run-erase : (cs : List (Call K)) (b : Box (tag K)) (n : ℕ) → run K (bare_box K b) cs ≡ map (bare_event K) (run (tag K) b (number K n cs))
   run-erase [] b n = refl
   run-erase (arrives a ∷ cs) b n = rw (call-erase b (arrives (n, a)), run-erase cs (call (tag K) b (arrives (n, a))).1 (suc n))
   run-erase (takes ∷ cs) b n = rw (call-erase b takes, run-erase cs (call (tag K) b takes).1 (suc n))
-  run-erase (starts w ∷ cs) b n = rw (call-erase b (starts w), run-erase cs (call (tag K) b (starts w)).1 (suc n))
-  run-erase (steps ∷ cs) b n = rw (call-erase b steps, run-erase cs (call (tag K) b steps).1 (suc n))
-  run-erase (abandons ∷ cs) b n = rw (call-erase b abandons, run-erase cs (call (tag K) b abandons).1 (suc n))
+  run-erase (start w ∷ cs) b n = rw (call-erase b (start w), run-erase cs (call (tag K) b (start w)).1 (suc n))
+  run-erase (step ∷ cs) b n = rw (call-erase b step, run-erase cs (call (tag K) b step).1 (suc n))
 
-  end-erase : (cs : List (KitCall K)) (b : Box (tag K)) (n : ℕ) → end K (bare_box K b) cs ≡ bare_box K (end (tag K) b (positioned K n cs))
+  end-erase : (cs : List (Call K)) (b : Box (tag K)) (n : ℕ) → end K (bare_box K b) cs ≡ bare_box K (end (tag K) b (number K n cs))
   end-erase [] b n = refl
   end-erase (arrives a ∷ cs) b n = rw (call-erase b (arrives (n, a)), end-erase cs (call (tag K) b (arrives (n, a))).1 (suc n))
   end-erase (takes ∷ cs) b n = rw (call-erase b takes, end-erase cs (call (tag K) b takes).1 (suc n))
-  end-erase (starts w ∷ cs) b n = rw (call-erase b (starts w), end-erase cs (call (tag K) b (starts w)).1 (suc n))
-  end-erase (steps ∷ cs) b n = rw (call-erase b steps, end-erase cs (call (tag K) b steps).1 (suc n))
-  end-erase (abandons ∷ cs) b n = rw (call-erase b abandons, end-erase cs (call (tag K) b abandons).1 (suc n))
+  end-erase (start w ∷ cs) b n = rw (call-erase b (start w), end-erase cs (call (tag K) b (start w)).1 (suc n))
+  end-erase (step ∷ cs) b n = rw (call-erase b step, end-erase cs (call (tag K) b step).1 (suc n))
 
   module _ (p : ℕ) where
     abbrev Sum : List (Event (tag K)) → ℕ
-    Sum log = sum_e (tag K) (count_at p) (recorded (tag K) (actions (tag K) log))
+    Sum log = sum_e (tag K) (count_at K p) (recorded (tag K) (actions (tag K) log))
 
     bit-same : (n : ℕ) → p ≡ n → bit (eqb n p) ≡ 1
     bit-same n e = go (eqb n p) refl
@@ -142,71 +116,60 @@ module _ (K : Kit) where
         go true h = absurd (e (sym (eqb→eq n p (rw h tt))))
         go false h = refl
 
-    made-same : (n : ℕ) (a : K.Frame) (o : Outcome) → p ≡ n → sum_e (tag K) (count_at p) (made (tag K) (n, a) o) ≡ flag (tag K) (did (arrived (n, a) o))
+    made-same : (n : ℕ) (a : K.Frame) (o : Outcome) → p ≡ n → sum_e (tag K) (count_at K p) (made (tag K) (n, a) o) ≡ counted o
     made-same n a not_recorded e = refl
     made-same n a marked e = omega (arith, bit-same n e)
     made-same n a stored e = omega (arith, bit-same n e)
 
-    made_other : (n : ℕ) (a : K.Frame) (o : Outcome) → p ≢ n → sum_e (tag K) (count_at p) (made (tag K) (n, a) o) ≡ 0
+    made_other : (n : ℕ) (a : K.Frame) (o : Outcome) → p ≢ n → sum_e (tag K) (count_at K p) (made (tag K) (n, a) o) ≡ 0
     made_other n a not_recorded e = refl
     made_other n a marked e = omega (arith, bit-other n e)
     made_other n a stored e = omega (arith, bit-other n e)
 
     Sum-arrive : (n : ℕ) (a : K.Frame) (o : Outcome) (log : List (Event (tag K)))
-        → Sum (did (arrived (n, a) o) ∷ log) ≡ sum_e (tag K) (count_at p) (made (tag K) (n, a) o) + Sum log
-    Sum-arrive n a o log = sum_e-append (tag K) (count_at p) (made (tag K) (n, a) o) (recorded (tag K) (actions (tag K) log))
+        → Sum (did (arrived (n, a) o) ∷ log) ≡ sum_e (tag K) (count_at K p) (made (tag K) (n, a) o) + Sum log
+    Sum-arrive n a o log = sum_e-append (tag K) (count_at K p) (made (tag K) (n, a) o) (recorded (tag K) (actions (tag K) log))
 
-    -- a call that records nothing
-    still-at : (c : KitCall (tag K)) (b : Box (tag K)) (cs : List (KitCall K)) (n : ℕ) → Still (tag K) (call (tag K) b c).0
-        → let later : List (Event (tag K)) = run (tag K) (call (tag K) b c).1 (positioned K n cs) in Sum ((call (tag K) b c).0 ∷ later) ≡ Sum later
-    still-at c b cs n s = rw (s.none-recorded (run (tag K) (call (tag K) b c).1 (positioned K n cs)))
+    Sum-still : (e : Event (tag K)) (log : List (Event (tag K))) → Still (tag K) e → Sum (e ∷ log) ≡ Sum log
+    Sum-still e log s = rw (s.none-recorded log)
 
-    before : (cs : List (KitCall K)) (b : Box (tag K)) (n : ℕ) → p < n → Sum (run (tag K) b (positioned K n cs)) ≡ 0
+    before : (cs : List (Call K)) (b : Box (tag K)) (n : ℕ) → p < n → Sum (run (tag K) b (number K n cs)) ≡ 0
     before [] b n h = refl
-    before (arrives a ∷ cs) (box f q m d) n h =
-        let b' = (call (tag K) (box f q m d) (arrives (n, a))).1 in
+    before (arrives a ∷ cs) (box f q d) n h =
+        let b' = (call (tag K) (box f q d) (arrives (n, a))).1 in
         let o = (enter (tag K) f (n, a)).0 in
-        omega (arith, before cs b' (suc n) (omega arith), Sum-arrive n a o (run (tag K) b' (positioned K (suc n) cs)), made_other n a o (omega arith))
-    before (takes ∷ cs) b n h = still-at takes b cs (suc n) (still-take (tag K) b) ∙ before cs (call (tag K) b takes).1 (suc n) (omega arith)
-    before (starts w ∷ cs) b n h = still-at (starts w) b cs (suc n) (still-start (tag K) w b) ∙ before cs (call (tag K) b (starts w)).1 (suc n) (omega arith)
-    before (steps ∷ cs) b n h = still-at steps b cs (suc n) (still-call (tag K) b) ∙ before cs (call (tag K) b steps).1 (suc n) (omega arith)
-    before (abandons ∷ cs) b n h = still-at abandons b cs (suc n) (still-abandon (tag K) b) ∙ before cs (call (tag K) b abandons).1 (suc n) (omega arith)
+        omega (arith, before cs b' (suc n) (omega arith), Sum-arrive n a o (run (tag K) b' (number K (suc n) cs)), made_other n a o (omega arith))
+    before (takes ∷ cs) b n h = Sum-still (call (tag K) b takes).0 (run (tag K) (call (tag K) b takes).1 (number K (suc n) cs)) (still-take (tag K) b) ∙ before cs (call (tag K) b takes).1 (suc n) (omega arith)
+    before (start w ∷ cs) b n h = Sum-still (call (tag K) b (start w)).0 (run (tag K) (call (tag K) b (start w)).1 (number K (suc n) cs)) (still-start (tag K) w b) ∙ before cs (call (tag K) b (start w)).1 (suc n) (omega arith)
+    before (step ∷ cs) b n h = Sum-still (call (tag K) b step).0 (run (tag K) (call (tag K) b step).1 (number K (suc n) cs)) (still-call (tag K) b) ∙ before cs (call (tag K) b step).1 (suc n) (omega arith)
 
     -- the arrival at position `n + k`, counted from a call at position `n`
-    pub there : (cs : List (KitCall K)) (b : Box (tag K)) (n k : ℕ) → p ≡ n + k → Sum (run (tag K) b (positioned K n cs)) ≡ get_or (map (flag (tag K)) (run (tag K) b (positioned K n cs))) k 0
+    there : (cs : List (Call K)) (b : Box (tag K)) (n k : ℕ) → p ≡ n + k → Sum (run (tag K) b (number K n cs)) ≡ get_or (map (flag (tag K)) (run (tag K) b (number K n cs))) k 0
     there [] b n k e = refl
-    there (arrives a ∷ cs) (box f q m d) n zero e =
-        let b' = (call (tag K) (box f q m d) (arrives (n, a))).1 in
+    there (arrives a ∷ cs) (box f q d) n zero e =
+        let b' = (call (tag K) (box f q d) (arrives (n, a))).1 in
         let o = (enter (tag K) f (n, a)).0 in
-        omega (arith, before cs b' (suc n) (omega arith), Sum-arrive n a o (run (tag K) b' (positioned K (suc n) cs)), made-same n a o (omega arith))
-    there (arrives a ∷ cs) (box f q m d) n (suc k) e =
-        let b' = (call (tag K) (box f q m d) (arrives (n, a))).1 in
+        omega (arith, before cs b' (suc n) (omega arith), Sum-arrive n a o (run (tag K) b' (number K (suc n) cs)), made-same n a o (omega arith))
+    there (arrives a ∷ cs) (box f q d) n (suc k) e =
+        let b' = (call (tag K) (box f q d) (arrives (n, a))).1 in
         let o = (enter (tag K) f (n, a)).0 in
-        omega (arith, there cs b' (suc n) k (omega arith), Sum-arrive n a o (run (tag K) b' (positioned K (suc n) cs)), made_other n a o (omega arith))
-    there (takes ∷ cs) b n zero e = still-at takes b cs (suc n) (still-take (tag K) b) ∙ before cs (call (tag K) b takes).1 (suc n) (omega arith) ∙ sym (still-take (tag K) b).no_flag
-    there (takes ∷ cs) b n (suc k) e = still-at takes b cs (suc n) (still-take (tag K) b) ∙ there cs (call (tag K) b takes).1 (suc n) k (omega arith)
-    there (starts w ∷ cs) b n zero e = still-at (starts w) b cs (suc n) (still-start (tag K) w b) ∙ before cs (call (tag K) b (starts w)).1 (suc n) (omega arith) ∙ sym (still-start (tag K) w b).no_flag
-    there (starts w ∷ cs) b n (suc k) e = still-at (starts w) b cs (suc n) (still-start (tag K) w b) ∙ there cs (call (tag K) b (starts w)).1 (suc n) k (omega arith)
-    there (steps ∷ cs) b n zero e = still-at steps b cs (suc n) (still-call (tag K) b) ∙ before cs (call (tag K) b steps).1 (suc n) (omega arith) ∙ sym (still-call (tag K) b).no_flag
-    there (abandons ∷ cs) b n zero e = still-at abandons b cs (suc n) (still-abandon (tag K) b) ∙ before cs (call (tag K) b abandons).1 (suc n) (omega arith) ∙ sym (still-abandon (tag K) b).no_flag
-    there (steps ∷ cs) b n (suc k) e = still-at steps b cs (suc n) (still-call (tag K) b) ∙ there cs (call (tag K) b steps).1 (suc n) k (omega arith)
-    there (abandons ∷ cs) b n (suc k) e = still-at abandons b cs (suc n) (still-abandon (tag K) b) ∙ there cs (call (tag K) b abandons).1 (suc n) k (omega arith)
+        omega (arith, there cs b' (suc n) k (omega arith), Sum-arrive n a o (run (tag K) b' (number K (suc n) cs)), made_other n a o (omega arith))
+    there (takes ∷ cs) b n zero e = Sum-still (call (tag K) b takes).0 (run (tag K) (call (tag K) b takes).1 (number K (suc n) cs)) (still-take (tag K) b) ∙ before cs (call (tag K) b takes).1 (suc n) (omega arith) ∙ sym (still-take (tag K) b).no_flag
+    there (takes ∷ cs) b n (suc k) e = Sum-still (call (tag K) b takes).0 (run (tag K) (call (tag K) b takes).1 (number K (suc n) cs)) (still-take (tag K) b) ∙ there cs (call (tag K) b takes).1 (suc n) k (omega arith)
+    there (start w ∷ cs) b n zero e = Sum-still (call (tag K) b (start w)).0 (run (tag K) (call (tag K) b (start w)).1 (number K (suc n) cs)) (still-start (tag K) w b) ∙ before cs (call (tag K) b (start w)).1 (suc n) (omega arith) ∙ sym (still-start (tag K) w b).no_flag
+    there (start w ∷ cs) b n (suc k) e = Sum-still (call (tag K) b (start w)).0 (run (tag K) (call (tag K) b (start w)).1 (number K (suc n) cs)) (still-start (tag K) w b) ∙ there cs (call (tag K) b (start w)).1 (suc n) k (omega arith)
+    there (step ∷ cs) b n zero e = Sum-still (call (tag K) b step).0 (run (tag K) (call (tag K) b step).1 (number K (suc n) cs)) (still-call (tag K) b) ∙ before cs (call (tag K) b step).1 (suc n) (omega arith) ∙ sym (still-call (tag K) b).no_flag
+    there (step ∷ cs) b n (suc k) e = Sum-still (call (tag K) b step).0 (run (tag K) (call (tag K) b step).1 (number K (suc n) cs)) (still-call (tag K) b) ∙ there cs (call (tag K) b step).1 (suc n) k (omega arith)
 
   flag-erase : (e : Event (tag K)) → flag K (bare_event K e) ≡ flag (tag K) e
-  flag-erase (did (arrived a not_recorded)) = refl
-  flag-erase (did (arrived a marked)) = refl
-  flag-erase (did (arrived a stored)) = refl
+  flag-erase (did (arrived a o)) = refl
   flag-erase (did (took x)) = refl
-  flag-erase (did (noticed r x)) = refl
+  flag-erase (did (noticed x)) = refl
   flag-erase (did (moved r x)) = refl
-  flag-erase (did (dropped r)) = refl
   flag-erase (did nothing) = refl
   flag-erase (started w) = refl
   flag-erase quiet = refl
   flag-erase released = refl
-  flag-erase ended = refl
-  flag-erase (abandoned none) = refl
-  flag-erase (abandoned (some r)) = refl
   flag-erase (refused n) = refl
 
   flags-erase : (log : List (Event (tag K))) → map (flag K) (map (bare_event K) log) ≡ map (flag (tag K)) log
@@ -218,27 +181,16 @@ module _ (K : Kit) where
   idle-erase (busy w p) h = let z : ◌≡◌ {A = ℕ} 0 1 = cc in absurd (omega arith)
 
   drain_of-erase : (b : Box (tag K)) → drain_of K (bare_box K b) ≡ bare_drain K (drain_of (tag K) b)
-  drain_of-erase (box f q m d) = refl
+  drain_of-erase (box f q d) = refl
 
-  in-one-place : (cs : List (KitCall K)) → drain_of (tag K) (positioned_end K cs) ≡ idle → (p : ℕ)
-      → times p (taken K cs) + times p (lost K cs) + times p (queued K cs) + times p (in_fifo K cs) ≡ recorded_at (tag K) p (positioned_run K cs)
-  in-one-place cs h p =
-      let b = positioned_end K cs in
-      let there-once = sym (kept (tag K) (count_at p) refl (λ n r. refl) (positioned K 0 cs) h) ∙ there p cs (fresh (tag K)) 0 p (omega arith) in
-      rw (times-records p (removed (tag K) (positioned_dids K cs)), times-records p (all_lost (tag K) (positioned_dids K cs)), times-records p (lists (tag K) b).1, times-entries p (lists (tag K) b).0)
-      there-once
-
-  flags-there : (cs : List (KitCall K)) → map (flag K) (run K (fresh K) cs) ≡ map (flag (tag K)) (positioned_run K cs)
-  flags-there cs = ap (map (flag K)) (run-erase cs (fresh (tag K)) 0) ∙ flags-erase (positioned_run K cs)
-
-  pub placed : (cs : List (KitCall K)) → drain_of K (end K (fresh K) cs) ≡ idle → Placed K cs (run K (fresh K) cs) (end K (fresh K) cs)
+  pub placed : (cs : List (Call K)) → drain_of K (end K (fresh K) cs) ≡ idle → Placed K cs (run K (fresh K) cs) (end K (fresh K) cs)
   placed cs h =
+      let r = run-erase cs (fresh (tag K)) 0 in
       let e = end-erase cs (fresh (tag K)) 0 in
-      let h' = idle-erase (drain_of (tag K) (positioned_end K cs)) (sym (drain_of-erase (positioned_end K cs)) ∙ ap (drain_of K) (sym e) ∙ h) in
-      let f = flags-there cs in
+      let h' = idle-erase (drain_of (tag K) (numbered_end K cs)) (sym (drain_of-erase (numbered_end K cs)) ∙ ap (drain_of K) (sym e) ∙ h) in
       record {
-        same-run = run-erase cs (fresh (tag K)) 0;
+        same-run = r;
         same_end = e;
-        whole-positioned = whole-actions (tag K) (positioned K 0 cs) h';
-        one_place = λ p. rw f (in-one-place cs h' p);
+        whole-numbered = whole-actions (tag K) (number K 0 cs) h';
+        one_place = λ p. rw (r, flags-erase) (sym (kept (tag K) (count_at K p) refl (number K 0 cs) h') ∙ there p cs (fresh (tag K)) 0 p (omega arith));
       }

@@ -1,10 +1,10 @@
 -- What a sequence of calls comes to: whole actions, in which each drain does what it owes.
--- Source: the outline, "The box", whole actions and what each drain that ran contributes; request #109: what an abandoned one does.
+-- Source: the outline, "The box", whole actions and what each drain that ran contributes.
 use Rattle.std.specs.Prelude.{◌≡◌, Bool, true, false, List, [], ◌∷◌, ◌++◌}
 use Rattle.std.proofs.Math.Option.{Option, none, some}
-use Rattle.box_model.specs.Lists.{Kit, Action, Did, noticed, moved, dropped, nothing, State, fresh_state, dids, after}
+use Rattle.box_model.specs.Lists.{Kit, Action, Did, noticed, moved, nothing, State, dids, after}
 use Rattle.box_model.specs.Calls.{Event}
-use Rattle.box_model.specs.Log.{Class, drains, fifo, queue, only, side, actions, Ran, ran, at_release}
+use Rattle.box_model.specs.Log.{Class, drains, fifo, queue, only, side, actions, starts, at_release}
 
 module _ (K : Kit) where
   open K use {Record, Words, due, receive}
@@ -21,35 +21,23 @@ module _ (K : Kit) where
 
   pub data Owed : Bool → Bool → List (Did K) → Type 0 where
     no-notice : {r : Bool} {ds : List (Did K)} → Received r ds → Owed false r ds
-    one-notice : {r : Bool} {s : Record} {x : Option Record} {ds : List (Did K)} → Received r ds → Owed true r (noticed s x ∷ ds)
+    one-notice : {r : Bool} {x : Option Record} {ds : List (Did K)} → Received r ds → Owed true r (noticed x ∷ ds)
 
-  -- what an abandoned drain did: the first of the actions that it would owe, and no further ones; last, where the next was a move that was released and not yet
-  -- offered, that move dropped
-  pub data Cut (d r : Bool) : List (Did K) → Type 0 where
-    begun : {ds : List (Did K)} (rest : List (Did K)) → Owed d r (ds ++ rest) → Cut d r ds
-    with-drop : (ds rest : List (Did K)) (s : Record) (x : Option Record) → Owed d r (ds ++ (moved s x ∷ rest)) → Cut d r (ds ++ (dropped s ∷ []))
-
-  -- of a drain that was abandoned (true) or finished
-  abbrev pub Owes : Bool → Bool → Bool → List (Did K) → Type 0
-  Owes false d r ds = Owed d r ds
-  Owes true d r ds = Cut d r ds
-
-  -- drains one after the other, each of which did what it owes, and all that they did
-  pub data AllOwed : List (Ran K) → List (Did K) → Type 0 where
+  pub data AllOwed : List Words → List (Did K) → Type 0 where
     no_more : AllOwed [] []
-    drain : {w : Words} {c : Bool} {rs : List (Ran K)} {ds es : List (Did K)} → Owes c (due w) (receive w) ds → AllOwed rs es → AllOwed ((w, c, ds) ∷ rs) (ds ++ es)
+    drain : {w : Words} {ws : List Words} {ds es : List (Did K)} → Owed (due w) (receive w) ds → AllOwed ws es → AllOwed (w ∷ ws) (ds ++ es)
 
-  -- the demand, of the log of calls from a fresh box and the FIFO, the queue and the next number after them
+  -- the demand, of the log of calls from a fresh box and the lists after them
   pub record Whole (log : List (Event K)) (t : State K) : Type 0 where
     -- there are whole actions
     pub acts : List (Action K)
-    -- that lead to the same FIFO, the same queue and the same next number
-    pub ends : after K (fresh_state K) acts ≡ t
-    -- whose arrivals, whose takes and whose drains' actions are those of the calls, each in its order, with the same answers and lost records, numbers among them
-    pub same : (c : Class) → only K c (dids K (fresh_state K) acts) ≡ only K c (actions K log)
-    -- whose drains' actions are those of the drains that ran, of which each did what it owes, no more, no fewer; an abandoned one owes no further actions
-    pub owed : AllOwed (ran K log) (only K drains (dids K (fresh_state K) acts))
+    -- that lead to the same FIFO and the same queue
+    pub ends : after K ([], []) acts ≡ t
+    -- whose arrivals, whose takes and whose drains' actions are those of the calls, each in its order, with the same answers and lost records
+    pub same : (c : Class) → only K c (dids K ([], []) acts) ≡ only K c (actions K log)
+    -- whose drains' actions are what the drains that ran owe, no more, no fewer
+    pub owed : AllOwed (starts K log) (only K drains (dids K ([], []) acts))
     -- and in which arrivals and drains' actions stand in the order of the calls, each move at its release
-    pub fifo-order : side K fifo (dids K (fresh_state K) acts) ≡ side K fifo (at_release K log)
-    -- and takes and drains' actions, each move at its offer, a dropped one where the drain was abandoned
-    pub queue-order : side K queue (dids K (fresh_state K) acts) ≡ side K queue (actions K log)
+    pub fifo-order : side K fifo (dids K ([], []) acts) ≡ side K fifo (at_release K log)
+    -- and takes and drains' actions, each move at its offer
+    pub queue-order : side K queue (dids K ([], []) acts) ≡ side K queue (actions K log)

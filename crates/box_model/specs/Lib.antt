@@ -1,12 +1,6 @@
-pub mod Collect
 pub mod Lists
 pub mod Calls
 pub mod Log
 pub mod Demand
-pub mod Heard
 pub mod Places
 pub mod Content
-pub mod Numbers
-pub mod Invoice
-pub mod NeverTwice
-pub mod MorePlaces

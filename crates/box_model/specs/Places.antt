@@ -1,15 +1,19 @@
--- Every recorded arrival ends in exactly one place. Positions are carried by the same model over entries with their positions.
+-- Every recorded arrival ends in exactly one place. Positions are carried by the same model over numbered entries.
 -- Source: the outline, "The box": an arrival is told by its position in the sequence, and a mark counts as recorded.
-use Rattle.std.specs.Prelude.{ℕ, suc, ◌+◌, ◌≡◌, List, [], ◌∷◌, ◌++◌, map, eqb, length, get_or}
+use Rattle.std.specs.Prelude.{ℕ, suc, ◌+◌, ◌≡◌, List, [], ◌∷◌, ◌++◌, map, eqb, get_or}
 use Rattle.std.proofs.Math.Option.{Option, none, some}
 use Rattle.laws.specs.Row.{bit}
-use Rattle.box_records.specs.Calls.{arrives, takes, starts, steps, abandons}
 use Rattle.box_fifo.specs.Ring.{Outcome, not_recorded, marked, stored}
-use Rattle.box_model.specs.Collect.{collect}
-use Rattle.box_model.specs.Lists.{Kit, Did, arrived, took, noticed, moved, dropped, nothing}
-use Rattle.box_model.specs.Calls.{KitCall, Phase, to_notice, to_look, to_miss, to_copy, to_release, to_offer, to_finish, Drain, idle, busy, Box, box, lists, fresh, Event, did, started, quiet, released, ended, abandoned, refused, run, end}
-use Rattle.box_model.specs.Log.{completed, actions}
+use Rattle.box_model.specs.Lists.{Kit, Did, arrived, took, noticed, moved, nothing}
+use Rattle.box_model.specs.Calls.{Call, arrives, takes, start, step, Phase, to_notice, to_look, to_miss, to_copy, to_release, to_offer, to_finish, Drain, idle, busy, Box, box, lists, fresh, Event, did, started, quiet, released, refused, run, end}
+use Rattle.box_model.specs.Log.{actions}
 use Rattle.box_model.specs.Demand.{Whole}
+
+-- an arrival that was recorded counts
+abbrev pub counted : Outcome → ℕ
+counted not_recorded = 0
+counted marked = 1
+counted stored = 1
 
 module _ (K : Kit) where
   open K use {Frame, Entry, Record, whole, mark, copy}
@@ -24,38 +28,29 @@ module _ (K : Kit) where
   one none = []
   one (some r) = r ∷ []
 
-  abbrev pub recorded_in : Did K → List Entry
-  recorded_in (arrived a o) = made a o
-  recorded_in (took x) = []
-  recorded_in (noticed r x) = []
-  recorded_in (moved r x) = []
-  recorded_in (dropped r) = []
-  recorded_in nothing = []
-
   abbrev pub recorded : List (Did K) → List Entry
-  recorded ds = collect recorded_in ds
-
-  abbrev pub removed_in : Did K → List Record
-  removed_in (arrived a o) = []
-  removed_in (took x) = one x
-  removed_in (noticed r x) = []
-  removed_in (moved r x) = []
-  removed_in (dropped r) = []
-  removed_in nothing = []
+  recorded [] = []
+  recorded (arrived a o ∷ ds) = made a o ++ recorded ds
+  recorded (took x ∷ ds) = recorded ds
+  recorded (noticed x ∷ ds) = recorded ds
+  recorded (moved r x ∷ ds) = recorded ds
+  recorded (nothing ∷ ds) = recorded ds
 
   abbrev pub removed : List (Did K) → List Record
-  removed ds = collect removed_in ds
+  removed [] = []
+  removed (arrived a o ∷ ds) = removed ds
+  removed (took x ∷ ds) = one x ++ removed ds
+  removed (noticed x ∷ ds) = removed ds
+  removed (moved r x ∷ ds) = removed ds
+  removed (nothing ∷ ds) = removed ds
 
-  abbrev pub lost_in : Did K → List Record
-  lost_in (arrived a o) = []
-  lost_in (took x) = []
-  lost_in (noticed r x) = one x
-  lost_in (moved r x) = one x
-  lost_in (dropped r) = r ∷ []
-  lost_in nothing = []
-
-  abbrev pub all_lost : List (Did K) → List Record
-  all_lost ds = collect lost_in ds
+  abbrev pub lost : List (Did K) → List Record
+  lost [] = []
+  lost (arrived a o ∷ ds) = lost ds
+  lost (took x ∷ ds) = lost ds
+  lost (noticed x ∷ ds) = one x ++ lost ds
+  lost (moved r x ∷ ds) = one x ++ lost ds
+  lost (nothing ∷ ds) = lost ds
 
   -- a measure of records, summed over records and over entries
   module _ (φ : Record → ℕ) where
@@ -67,9 +62,17 @@ module _ (K : Kit) where
     sum_e [] = 0
     sum_e (e ∷ f) = φ (copy e) + sum_e f
 
-  -- how many entries a call recorded: 1 or 0
+  -- which calls recorded an arrival: 1 or 0 for each
   abbrev pub flag : Event K → ℕ
-  flag e = length (recorded (completed K e))
+  flag (did (arrived a o)) = counted o
+  flag (did (took x)) = 0
+  flag (did (noticed x)) = 0
+  flag (did (moved r x)) = 0
+  flag (did nothing) = 0
+  flag (started w) = 0
+  flag quiet = 0
+  flag released = 0
+  flag (refused n) = 0
 
 -- positions: the same box whose entries and records carry the position of their arrival in the sequence of calls
 abbrev pub tag : Kit → Kit
@@ -84,9 +87,6 @@ tag K = record {
   weigh = λ e. K.weigh e.1;
   copy = λ e. (some e.0, K.copy e.1);
   bus_off = (none, K.bus_off);
-  stamp = λ n r. (r.0, K.stamp n r.1);
-  number_of = λ r. K.number_of r.1;
-  stamped = λ n r. K.stamped n r.1;
   due = K.due;
   receive = K.receive;
   places = K.places;
@@ -96,19 +96,13 @@ abbrev pub is_at : ℕ → Option ℕ → ℕ
 is_at p none = 0
 is_at p (some n) = bit (eqb n p)
 
--- how often a position stands in a list of positions; what has none is a notice
-abbrev pub times : ℕ → List (Option ℕ) → ℕ
-times p [] = 0
-times p (x ∷ xs) = is_at p x + times p xs
-
 module _ (K : Kit) where
-  abbrev pub positioned : ℕ → List (KitCall K) → List (KitCall (tag K))
-  positioned p [] = []
-  positioned p (arrives a ∷ cs) = arrives (p, a) ∷ positioned (suc p) cs
-  positioned p (takes ∷ cs) = takes ∷ positioned (suc p) cs
-  positioned p (starts w ∷ cs) = starts w ∷ positioned (suc p) cs
-  positioned p (steps ∷ cs) = steps ∷ positioned (suc p) cs
-  positioned p (abandons ∷ cs) = abandons ∷ positioned (suc p) cs
+  abbrev pub number : ℕ → List (Call K) → List (Call (tag K))
+  number n [] = []
+  number n (arrives a ∷ cs) = arrives (n, a) ∷ number (suc n) cs
+  number n (takes ∷ cs) = takes ∷ number (suc n) cs
+  number n (start w ∷ cs) = start w ∷ number (suc n) cs
+  number n (step ∷ cs) = step ∷ number (suc n) cs
 
   -- without the positions
   abbrev pub bare_option : Option (Option ℕ × K.Record) → Option K.Record
@@ -118,9 +112,8 @@ module _ (K : Kit) where
   abbrev pub bare_did : Did (tag K) → Did K
   bare_did (arrived a o) = arrived a.1 o
   bare_did (took x) = took (bare_option x)
-  bare_did (noticed r x) = noticed r.1 (bare_option x)
+  bare_did (noticed x) = noticed (bare_option x)
   bare_did (moved r x) = moved r.1 (bare_option x)
-  bare_did (dropped r) = dropped r.1
   bare_did nothing = nothing
 
   abbrev pub bare_event : Event (tag K) → Event K
@@ -128,8 +121,6 @@ module _ (K : Kit) where
   bare_event (started w) = started w
   bare_event quiet = quiet
   bare_event released = released
-  bare_event ended = ended
-  bare_event (abandoned x) = abandoned (bare_option x)
   bare_event (refused n) = refused n
 
   abbrev pub bare_phase : Phase (tag K) → Phase K
@@ -152,47 +143,30 @@ module _ (K : Kit) where
   bare_records q = map (λ (r : Option ℕ × K.Record). r.1) q
 
   abbrev pub bare_box : Box (tag K) → Box K
-  bare_box (box f q n d) = box (bare_entries f) (bare_records q) n (bare_drain d)
+  bare_box (box f q d) = box (bare_entries f) (bare_records q) (bare_drain d)
 
-  abbrev pub bare_call : KitCall (tag K) → KitCall K
+  abbrev pub bare_call : Call (tag K) → Call K
   bare_call (arrives a) = arrives a.1
   bare_call takes = takes
-  bare_call (starts w) = starts w
-  bare_call steps = steps
-  bare_call abandons = abandons
+  bare_call (start w) = start w
+  bare_call step = step
 
-  -- the calls with their positions; what they did, and the box after them, with positions
-  abbrev pub positioned_run : List (KitCall K) → List (Event (tag K))
-  positioned_run cs = run (tag K) (fresh (tag K)) (positioned 0 cs)
+  -- how often a position stands among tagged records
+  abbrev pub count_at : ℕ → Option ℕ × K.Record → ℕ
+  count_at p r = is_at p r.0
 
-  abbrev pub positioned_dids : List (KitCall K) → List (Did (tag K))
-  positioned_dids cs = actions (tag K) (positioned_run cs)
+  -- the calls numbered; what they did, and the box after them, with positions
+  abbrev pub numbered_dids : List (Call K) → List (Did (tag K))
+  numbered_dids cs = actions (tag K) (run (tag K) (fresh (tag K)) (number 0 cs))
 
-  abbrev pub positioned_end : List (KitCall K) → Box (tag K)
-  positioned_end cs = end (tag K) (fresh (tag K)) (positioned 0 cs)
+  abbrev pub numbered_end : List (Call K) → Box (tag K)
+  numbered_end cs = end (tag K) (fresh (tag K)) (number 0 cs)
 
-  -- how many arrivals the call at a position recorded: 1 or 0
-  abbrev pub recorded_at : ℕ → List (Event K) → ℕ
-  recorded_at p log = get_or (map (flag K) log) p 0
-
-  -- after calls from a fresh box: the positions of the records that were taken, of those that were lost and of those in the queue, and of the entries in the FIFO
-  module _ (cs : List (KitCall K)) where
-    abbrev pub taken : List (Option ℕ)
-    taken = map (λ r. r.0) (removed (tag K) (positioned_dids cs))
-
-    abbrev pub lost : List (Option ℕ)
-    lost = map (λ r. r.0) (all_lost (tag K) (positioned_dids cs))
-
-    abbrev pub queued : List (Option ℕ)
-    queued = map (λ r. r.0) (lists (tag K) (positioned_end cs)).1
-
-    abbrev pub in_fifo : List (Option ℕ)
-    in_fifo = map (λ e. some e.0) (lists (tag K) (positioned_end cs)).0
-
-    -- Without the positions this is the log and the box after it. And the number of places at which a position stands is 1 if the call at that position is an arrival
-    -- that was recorded, and 0 otherwise; a record that an abandonment dropped is among the lost
-    pub record Placed (log : List (Event K)) (b : Box K) : Type 0 where
-      pub same-run : log ≡ map bare_event (positioned_run cs)
-      pub same_end : b ≡ bare_box (positioned_end cs)
-      pub whole-positioned : Whole (tag K) (positioned_run cs) (lists (tag K) (positioned_end cs))
-      pub one_place : (p : ℕ) → times p taken + times p lost + times p queued + times p in_fifo ≡ recorded_at p log
+  -- Without the positions this is the log and the box after it. And the number of places at which a position stands (taken, lost, queued, in the FIFO) is 1 if the call
+  -- at that position is an arrival that was recorded, and 0 otherwise
+  pub record Placed (cs : List (Call K)) (log : List (Event K)) (b : Box K) : Type 0 where
+    pub same-run : log ≡ map bare_event (run (tag K) (fresh (tag K)) (number 0 cs))
+    pub same_end : b ≡ bare_box (numbered_end cs)
+    pub whole-numbered : Whole (tag K) (run (tag K) (fresh (tag K)) (number 0 cs)) (lists (tag K) (numbered_end cs))
+    pub one_place : (p : ℕ) → sum (tag K) (count_at p) (removed (tag K) (numbered_dids cs)) + sum (tag K) (count_at p) (lost (tag K) (numbered_dids cs))
+        + sum (tag K) (count_at p) (lists (tag K) (numbered_end cs)).1 + sum_e (tag K) (count_at p) (lists (tag K) (numbered_end cs)).0 ≡ get_or (map (flag K) log) p 0

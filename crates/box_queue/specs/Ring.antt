@@ -21,7 +21,7 @@ queue_limit = 32
 
 -- what stands past the end of the places
 abbrev pub nowhere : Record
-nowhere = record { kind = Frame; bytes = []; number = 0 }
+nowhere = record { kind = Frame; bytes = [] }
 
 abbrev pub empty_queue : ℕ → Queue
 empty_queue n = record { places = replicate n blank; head = 0; count = 0 }

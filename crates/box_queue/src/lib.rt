@@ -1,4 +1,5 @@
 // The receive queue by value: a ring of records, of which the oldest is taken first.
+#![tactic(auto)]
 ghost use Rattle.std.specs.Prelude.{◌≡◌};
 ghost use Rattle.box_queue.specs.Ring.{queue_limit, empty_queue, queue_ok, offer_of, offered_said, take_of, taken_said};
 

@@ -1,12 +1,19 @@
--- The comparison of records, place by place; and it is equality but for the number: a record is the same as itself, and what is found the same is
--- equal once both have one number. Assumes nothing.
-use Rattle.std.proofs.Common.{◌≡◌, ℕ, ◌+◌, ◌<◌, ◌≤◌, true, ◌&&◌, eqb, List, [], ◌∷◌, length, get_or, drop, refl, ap, ◌∙◌, add-one, drop_of_length-le, drop-cons, eq-eqb, eqb-true}
+-- The comparison of records, place by place; and it is equality: a record is the same as itself, and what is found the same is equal.
+-- Assumes nothing.
+use Prim.Native.Nat.{ℕ, ◌+◌, ◌≤◌, ◌<◌}
+use mathlib.Core.Path.{◌≡◌, refl, ap, ◌∙◌}
+use mathlib.Core.Bool.{true, ◌&&◌}
+use mathlib.Core.List.{List, [], ◌∷◌}
+use lib.Dec.{eqb}
+use lib.ListN.{length, get_or, drop, drop_of_length-le}
+use lib.Seq.{drop-cons}
+use native.Mathlib.Numerals.{add-one}
+use borrow.Author.Tests.{eqb-true, eq-eqb}
 use Rattle.laws.proofs.Bools.{both_true}
 use Rattle.box_records.specs.declared.RecordError.TheVariants.{Overrun, BusOff}
 use Rattle.box_records.specs.declared.RecordKind.{RecordKind}
 use Rattle.box_records.specs.declared.RecordKind.TheVariants.{Frame, Error}
 use Rattle.box_records.specs.declared.Record.{Record}
-use Rattle.box_records.specs.Number.{numbered}
 use Rattle.box_records.specs.Same.{same_bytes, same_kind, same_record}
 
 pub same_step : (a b : List ℕ) (i : ℕ) → i < length a → i < length b →
@@ -51,9 +58,9 @@ kind-equal (Error Overrun) (Error BusOff) e = cc
 kind-equal (Error BusOff) (Error Overrun) e = cc
 kind-equal (Error BusOff) (Error BusOff) e = refl
 
-pub same-equal : (r s : Record) (n : ℕ) → same_record r s ≡ true → numbered n r ≡ numbered n s
-same-equal r s n e =
+pub same-equal : (r s : Record) → same_record r s ≡ true → r ≡ s
+same-equal r s e =
     let h = both_true (same_kind r.kind s.kind) (same_bytes r.bytes s.bytes) e in
-    let made : RecordKind → List ℕ → Record = λ k b. record { kind = k; bytes = b; number = n } in
+    let made : RecordKind → List ℕ → Record = λ k b. record { kind = k; bytes = b } in
     ap (λ (k : RecordKind). made k r.bytes) (kind-equal r.kind s.kind h.0)
     ∙ ap (λ (b : List ℕ). made s.kind b) (bytes-equal r.bytes s.bytes h.1)

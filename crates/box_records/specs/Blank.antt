@@ -6,4 +6,4 @@ use Rattle.box_records.specs.declared.Record.{Record}
 
 -- what stands where no record is told
 abbrev pub blank : Record
-blank = record { kind = Frame; bytes = replicate 13 0; number = 0 }
+blank = record { kind = Frame; bytes = replicate 13 0 }

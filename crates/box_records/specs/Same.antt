@@ -1,6 +1,6 @@
--- Two records compared by all but the number: their kinds, and their bytes one by one.
--- Source: the outline, "The box", state rules: at release the held record is the front's copy; request #108: by all but the number.
-use Rattle.std.specs.Prelude.{ℕ, Bool, true, false, ◌&&◌, List, [], ◌∷◌, ◌==◌}
+-- Two records compared: their kinds, and their bytes one by one.
+-- Source: the outline, "The box", state rules: at release the held record is the front's copy.
+use Rattle.std.specs.Prelude.{ℕ, Bool, true, false, ◌&&◌, List, [], ◌∷◌, eqb}
 use Rattle.box_records.specs.declared.RecordError.{RecordError}
 use Rattle.box_records.specs.declared.RecordError.TheVariants.{Overrun, BusOff}
 use Rattle.box_records.specs.declared.RecordKind.{RecordKind}
@@ -11,7 +11,7 @@ unfoldable pub same_bytes : List ℕ → List ℕ → Bool
 same_bytes [] [] = true
 same_bytes [] (y ∷ ys) = false
 same_bytes (x ∷ xs) [] = false
-same_bytes (x ∷ xs) (y ∷ ys) = x == y && same_bytes xs ys
+same_bytes (x ∷ xs) (y ∷ ys) = eqb x y && same_bytes xs ys
 
 abbrev pub same_error : RecordError → RecordError → Bool
 same_error Overrun Overrun = true

@@ -1,7 +1,7 @@
-// A record of the receive queue: a frame or an error, with its number; the blank one, and whether two are the same but for the number.
+// A record of the receive queue: a frame or an error; the blank one, and whether two are the same.
+#![tactic(auto)]
 ghost use Rattle.std.specs.Prelude.{◌≡◌};
 ghost use Rattle.box_records.specs.Blank.{blank};
-ghost use Rattle.box_records.specs.Number.{following, numbered};
 ghost use Rattle.box_records.specs.Same.{same_bytes, same_kind, same_record};
 
 #[derive(Drop)]
@@ -16,19 +16,11 @@ pub enum RecordKind {
     Error(RecordError),
 }
 
-// The frame's bytes stand beside the enum, zeros for an error. The number is 0 until the record is released or, a notice, offered.
+// The frame's bytes stand beside the enum, zeros for an error.
 #[derive(Drop)]
 pub struct Record {
     pub kind: RecordKind,
     pub bytes: [u8; 13],
-    pub number: u32,
-}
-
-// The number after a number: 0 after the largest.
-pub fn following(number: u32) -> u32
-    ensures { result ≡ following number }
-{
-    std::num::wrapping_add_u32(number, 1)
 }
 
 fn same_bytes(a: [u8; 13], b: [u8; 13]) -> bool
@@ -76,21 +68,9 @@ impl Record {
         Record {
             kind: RecordKind::Frame,
             bytes: [0; 13],
-            number: 0,
         }
     }
 
-    // The record with a number given to it.
-    pub fn numbered(self, number: u32) -> Record
-        ensures { result ≡ numbered number self }
-    {
-        Record {
-            number: number,
-            ..self
-        }
-    }
-
-    // All but the number is compared.
     pub fn same(self, other: Record) -> bool
         ensures { result ≡ same_record self other }
     {

@@ -1,5 +1,5 @@
 -- A fresh box, an arrival and a take.
--- Source: the outline, "The box", and refusal 10; request #108: the box state keeps the next number, and a fresh box starts at 0.
+-- Source: the outline, "The box", and refusal 10.
 use Rattle.std.specs.Prelude.{ℕ, cond, List, []}
 use Rattle.laws.specs.Said.{Said, refuses, gives}
 use Rattle.refusals.specs.Table.{refusal_said}
@@ -18,15 +18,11 @@ use Rattle.box_state.specs.declared.Arrived.{Arrived}
 use Rattle.box_state.specs.declared.Taken.{Taken}
 use Rattle.box_state.specs.Rules.{box_ok}
 
--- the box with another FIFO, queue, next step and held record; the words and the next number stay
+-- the box with another FIFO, queue, next step and held record; the words stay
 abbrev pub with_of : ReceiveBox → Fifo → Queue → P.Phase → Record → ReceiveBox
-with_of g f q p h = record { fifo = f; queue = q; phase = p; held = h; words = g.words; next = g.next }
+with_of g f q p h = record { fifo = f; queue = q; phase = p; held = h; words = g.words }
 
--- the box with another next number
-abbrev pub counting_on : ReceiveBox → ℕ → ReceiveBox
-counting_on g n = record { fifo = g.fifo; queue = g.queue; phase = g.phase; held = g.held; words = g.words; next = n }
-
--- empty FIFO and queue, no drain, and the first number is 0
+-- empty FIFO and queue, and no drain
 abbrev pub fresh_box : ReceiveBox
 fresh_box =
     record {
@@ -35,7 +31,6 @@ fresh_box =
       phase = phase.Idle;
       held = blank;
       words = record { interrupt = 0; enable = 0; status = 0 };
-      next = 0;
     }
 
 -- an arrival changes the FIFO, and answers what became of it

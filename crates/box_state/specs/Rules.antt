@@ -1,5 +1,5 @@
 -- The state rules of the box.
--- Source: the outline, "The box", state rules; request #108: the held record is compared with the front by all but the number.
+-- Source: the outline, "The box", state rules.
 use Rattle.std.specs.Prelude.{Bool, true, false, cond, not, ◌&&◌, ltb, replicate}
 use Rattle.box_records.specs.declared.RecordError.TheVariants.{Overrun, BusOff}
 use Rattle.box_records.specs.declared.RecordKind.TheVariants.{Frame, Error}
@@ -13,12 +13,12 @@ use Rattle.box_state.specs.declared.Phase as P
 use Rattle.box_state.specs.declared.Phase.TheVariants as phase
 use Rattle.box_state.specs.declared.ReceiveBox.{ReceiveBox}
 
--- the record that an entry becomes: its copy, or Overrun for a mark; it has no number yet
+-- the record that an entry becomes: its copy, or Overrun for a mark
 abbrev pub record_of : Entry → Record
-record_of e = cond e.mark (record { kind = Error Overrun; bytes = replicate 13 0; number = 0 }) (record { kind = Frame; bytes = e.bytes; number = 0 })
+record_of e = cond e.mark (record { kind = Error Overrun; bytes = replicate 13 0 }) (record { kind = Frame; bytes = e.bytes })
 
 abbrev pub bus_off : Record
-bus_off = record { kind = Error BusOff; bytes = replicate 13 0; number = 0 }
+bus_off = record { kind = Error BusOff; bytes = replicate 13 0 }
 
 abbrev pub is_idle : P.Phase → Bool
 is_idle phase.Idle = true
@@ -38,7 +38,7 @@ front_ready g = receive_due g.words && ltb 0 g.fifo.count
 unfoldable pub copy_ready : ReceiveBox → Bool
 copy_ready g = front_ready g && not (front_of g.fifo).mark
 
--- at release the held record is the front's copy, or Overrun for a mark, by all but the number
+-- at release the held record is the front's copy, or Overrun for a mark
 unfoldable pub release_ready : ReceiveBox → Bool
 release_ready g = front_ready g && same_record g.held (record_of (front_of g.fifo))
 

@@ -1,4 +1,5 @@
 // The box by value: its rules, arrivals and takes.
+#![tactic(auto)]
 ghost use Rattle.std.specs.Prelude.{◌≡◌};
 ghost use Rattle.box_state.specs.Rules.{record_of, front_ready, copy_ready, release_ready, phase_ok, box_ok};
 ghost use Rattle.box_state.specs.Calls.{fresh_box, arrived_said, arrive_of, taken_said, take_of};
@@ -22,7 +23,6 @@ pub enum Phase {
     Finish,
 }
 
-// `next` is the number that the next record gets.
 #[derive(Drop)]
 pub struct ReceiveBox {
     pub fifo: Fifo,
@@ -30,7 +30,6 @@ pub struct ReceiveBox {
     pub phase: Phase,
     pub held: Record,
     pub words: Words,
-    pub next: u32,
 }
 
 #[derive(Drop)]
@@ -51,7 +50,7 @@ pub struct Taken {
     pub state: ReceiveBox,
 }
 
-// The record that an entry becomes, which has no number yet.
+// The record that an entry becomes.
 pub fn record_of(entry: Entry) -> Record
     ensures { result ≡ record_of entry }
 {
@@ -59,14 +58,12 @@ pub fn record_of(entry: Entry) -> Record
         return Record {
             kind: RecordKind::Error(RecordError::Overrun),
             bytes: [0; 13],
-            number: 0,
         };
     }
     let bytes = entry.bytes;
     Record {
         kind: RecordKind::Frame,
         bytes: bytes,
-        number: 0,
     }
 }
 
@@ -94,7 +91,7 @@ fn copy_ready(state: ReceiveBox) -> bool
     false
 }
 
-// At release the held record is the front's, but for the number.
+// At release the held record is the front's.
 fn release_ready(state: ReceiveBox) -> bool
     ensures { result ≡ release_ready state }
 {
@@ -139,7 +136,7 @@ impl ReceiveBox {
         false
     }
 
-    // No entries, no records, no drain; the first number is 0.
+    // No entries, no records, no drain.
     pub fn fresh() -> ReceiveBox
         ensures { result ≡ fresh_box }
     {
@@ -157,7 +154,6 @@ impl ReceiveBox {
             phase: Phase::Idle,
             held: held,
             words: words,
-            next: 0,
         }
     }
 

@@ -1,4 +1,4 @@
--- An arrival, a take, a start and an abandonment, on a box that keeps the rules: the event and the box after it are the model's. Assumes nothing.
+-- An arrival, a take and a start, on a box that keeps the rules: the event and the box after it are the model's. Assumes nothing.
 use Prim.Native.Nat.{ℕ, zero, suc, ◌+◌}
 use mathlib.Core.Path.{◌≡◌, refl, ap, ◌∙◌}
 use mathlib.Core.Bool.{Bool, true, false, cond}
@@ -12,7 +12,6 @@ use Rattle.laws.specs.Tabulate.{tabulate}
 use Rattle.laws.proofs.Tabulate.{tabulate-snoc, tabulate-none, length-tabulate}
 use Rattle.box_records.specs.declared.Record.{Record}
 use Rattle.box_records.specs.Blank.{blank}
-use Rattle.box_records.specs.Calls.{arrives, takes, starts, abandons}
 use Rattle.box_queue.specs.Ring as Q
 use Rattle.box_queue.specs.Ring.{queue_limit}
 use Rattle.box_queue.specs.View.{record_at, view}
@@ -33,13 +32,11 @@ use Rattle.box_state.specs.Calls.{with_of, arrive_of, take_of}
 use Rattle.box_state.proofs.Rules.{Good, good-ok}
 use Rattle.box_drain.specs.Step.{first_phase, after_notice}
 use Rattle.box_drain.specs.Start.{begun, start_of}
-use Rattle.box_drain.specs.Abandon.{AbandonSaid, abandon_at, abandon_of}
 use Rattle.box_model.specs.Calls as Calls
 use Rattle.box_model.specs.Lists as Lists
 use Rattle.box_model.specs.Lists.{enter}
-use Rattle.box_model.specs.Calls.{Event, Box, box, Drain, busy, call, first, moving}
+use Rattle.box_model.specs.Calls.{Event, Box, Drain, busy, call, arrives, takes, start, first, moving}
 use Rattle.box_theorem.specs.Kit.{can, drain_in, box_of}
-use Rattle.box_theorem.specs.Events.{abandon_event}
 use Rattle.box_theorem.specs.Run.{call_of}
 
 -- what a call on the box did, and the box after it, are what a call of the model did, and its box after that
@@ -167,7 +164,7 @@ idle-is phase.Offer e = cc
 idle-is phase.Finish e = cc
 
 module _ (g : ReceiveBox) (w : Words) (k : Good g) where
-  started-by : (b : Bool) → is_idle g.phase ≡ b → Refines (call_of g (starts w)) (call can (box_of g) (starts w))
+  started-by : (b : Bool) → is_idle g.phase ≡ b → Refines (call_of g (start w)) (call can (box_of g) (start w))
   unfolding start_of
   started-by true e =
       let c : start_of g w ≡ (gives tt, begun g w) = simp (good-ok g k, e) in
@@ -178,30 +175,5 @@ module _ (g : ReceiveBox) (w : Words) (k : Good g) where
       let d = runs g.phase g.words g.held e in
       record { event = rw (c, d.is); state = rw (c, d.is) }
 
-pub start-refines : (g : ReceiveBox) (w : Words) → Good g → Refines (call_of g (starts w)) (call can (box_of g) (starts w))
+pub start-refines : (g : ReceiveBox) (w : Words) → Good g → Refines (call_of g (start w)) (call can (box_of g) (start w))
 start-refines g w k = started-by g w k (is_idle g.phase) refl
-
--- AN ABANDONMENT
-module _ (g : ReceiveBox) (k : Good g) where
-  abandoned-at : (p : P.Phase) → g.phase ≡ p
-      → Refines (abandon_event (abandon_at p g).0, (abandon_at p g).1) (call can (box (entries_of g.fifo) (view queue_limit g.queue) g.next (drain_in p g.words g.held)) abandons)
-  abandoned-at phase.Idle e = record { event = refl; state = rw e }
-  abandoned-at phase.Notice e = record { event = refl; state = refl }
-  abandoned-at phase.Look e = record { event = refl; state = refl }
-  abandoned-at phase.Miss e = record { event = refl; state = refl }
-  abandoned-at phase.Copy e = record { event = refl; state = refl }
-  abandoned-at phase.Release e = record { event = refl; state = refl }
-  abandoned-at phase.Offer e = record { event = refl; state = refl }
-  abandoned-at phase.Finish e = record { event = refl; state = refl }
-
-  abandon-is : abandon_of g ≡ abandon_at g.phase g
-  unfolding abandon_of
-  abandon-is = simp (good-ok g k)
-
-pub abandon-refines : (g : ReceiveBox) → Good g → Refines (call_of g abandons) (call can (box_of g) abandons)
-abandon-refines g k =
-    let r = abandoned-at g k g.phase refl in
-    record {
-      event = ap (λ (x : AbandonSaid × ReceiveBox). abandon_event x.0) (abandon-is g k) ∙ r.event;
-      state = ap (λ (x : AbandonSaid × ReceiveBox). box_of x.1) (abandon-is g k) ∙ r.state;
-    }

@@ -3,9 +3,8 @@ use mathlib.Core.Path.{◌≡◌, refl, sym, ap, ◌∙◌}
 use mathlib.Core.Bool.{not}
 use mathlib.Core.Option.{none, some}
 use mathlib.Core.List.{[], ◌∷◌, ◌++◌, map}
-use lib.ListN.{length}
+use lib.ListN.{length, replicate}
 use Rattle.laws.specs.Row.{bit}
-use Rattle.laws.specs.Tabulate.{tabulate}
 use Rattle.laws.proofs.Tabulate.{length-tabulate}
 use Rattle.box_queue.specs.Ring.{queue_limit}
 use Rattle.box_queue.specs.View.{record_at}
@@ -16,15 +15,15 @@ use Rattle.box_words.specs.Due.{receive_due, notice_due}
 use Rattle.box_state.specs.declared.ReceiveBox.{ReceiveBox}
 use Rattle.box_state.specs.Calls.{fresh_box}
 use Rattle.box_state.proofs.Rules.{Good}
-use Rattle.box_drain.proofs.Kept.{fresh-good, good-from}
+use Rattle.box_drain.proofs.Kept.{fresh-good}
 use Rattle.box_model.specs.Lists.{moved}
-use Rattle.box_model.specs.Calls.{Box, box, idle, lists, run, end, did, started, quiet, released, ended}
+use Rattle.box_model.specs.Calls.{Box, box, idle, lists, run, end, did, started, quiet, released}
 use Rattle.box_theorem.specs.Kit.{can, box_of}
 use Rattle.box_theorem.specs.P12.{frame, framed, receiving, before, last_drain, box_before, drain_did, box_after, queued_in, wholes_in, lost_by}
-use Rattle.box_theorem.proofs.Runs.{run_is, end_is, fresh-end}
+use Rattle.box_theorem.proofs.Theorem.{good-from, run_is, end_is, fresh-end}
 
--- 31 queued, with the numbers 0 to 30, three whole in the FIFO, no drain
-pub box-before : box_of box_before ≡ box (whole_entry (frame 1) ∷ whole_entry (frame 2) ∷ whole_entry (frame 3) ∷ []) (tabulate 31 (framed 0)) 31 idle
+-- 31 queued, three whole in the FIFO, no drain
+pub box-before : box_of box_before ≡ box (whole_entry (frame 1) ∷ whole_entry (frame 2) ∷ whole_entry (frame 3) ∷ []) (replicate 31 (framed 0)) idle
 unfolding weight_of data_length_of receive_due notice_due
 box-before = fresh-end before ∙ refl
 
@@ -32,13 +31,13 @@ good-before : Good box_before
 good-before = good-from before fresh_box fresh-good
 
 -- one is stored, one is left; no drain
-pub box-after : box_of box_after ≡ box (whole_entry (frame 3) ∷ []) (tabulate 31 (framed 0) ++ (framed 1 31 ∷ [])) 33 idle
+pub box-after : box_of box_after ≡ box (whole_entry (frame 3) ∷ []) (replicate 31 (framed 0) ++ (framed 1 ∷ [])) idle
 unfolding weight_of data_length_of receive_due notice_due
 box-after = end_is last_drain box_before good-before ∙ ap (λ (b : Box can). end can b last_drain) box-before
 
--- and one is lost, and named with its number: the answers of the last drain
+-- and one is lost, and named: the answers of the last drain
 pub drain-did : drain_did
-    ≡ started receiving ∷ quiet ∷ quiet ∷ quiet ∷ released ∷ did (moved (framed 1 31) none) ∷ quiet ∷ quiet ∷ quiet ∷ released ∷ did (moved (framed 2 32) (some (framed 2 32))) ∷ ended ∷ []
+    ≡ started receiving ∷ quiet ∷ quiet ∷ quiet ∷ released ∷ did (moved (framed 1) none) ∷ quiet ∷ quiet ∷ quiet ∷ released ∷ did (moved (framed 2) (some (framed 2))) ∷ quiet ∷ []
 unfolding weight_of data_length_of receive_due notice_due
 drain-did = run_is last_drain box_before good-before ∙ ap (λ (b : Box can). run can b last_drain) box-before
 

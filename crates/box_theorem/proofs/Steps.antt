@@ -10,9 +10,6 @@ use borrow.Author.Tests.{ltb-true, eqb-true, eqb-false}
 use Rattle.laws.specs.Said.{gives}
 use Rattle.laws.proofs.Tabulate.{tabulate-none, length-tabulate}
 use Rattle.box_records.specs.declared.Record.{Record}
-use Rattle.box_records.specs.Blank.{blank}
-use Rattle.box_records.specs.Number.{numbered}
-use Rattle.box_records.specs.Calls.{steps}
 use Rattle.box_queue.specs.Ring.{queue_limit, pushed, offer_of}
 use Rattle.box_queue.specs.View.{record_at, view}
 use Rattle.box_queue.proofs.Ring.{queue-ok}
@@ -23,27 +20,23 @@ use Rattle.box_state.specs.declared.Phase as P
 use Rattle.box_state.specs.declared.Phase.TheVariants as phase
 use Rattle.box_state.specs.declared.ReceiveBox.{ReceiveBox}
 use Rattle.box_state.specs.Rules.{record_of, bus_off, phase_ok}
+use Rattle.box_state.specs.Calls.{with_of}
 use Rattle.box_state.proofs.Rules.{Good, good-ok, ready, copy-front, release-front}
 use Rattle.box_drain.specs.declared.Command.{Command}
 use Rattle.box_drain.specs.declared.Command.TheVariants as command
-use Rattle.box_drain.specs.Answers.{lost, StepSaid, quietly}
-use Rattle.box_drain.specs.Step.{at_phase, holding, empty_handed, offering, notice_step, look_step, miss_step, copy_step, release_step, offer_step, finish_step, by_phase, step_of}
+use Rattle.box_drain.specs.Answers.{lost, quietly}
+use Rattle.box_drain.specs.Step.{at_phase, holding, offering, notice_step, look_step, miss_step, copy_step, release_step, offer_step, finish_step, by_phase, step_of}
 use Rattle.box_model.specs.Calls as Calls
 use Rattle.box_model.specs.Lists.{offer}
-use Rattle.box_model.specs.Calls.{Event, Box, box, call, stepped, to_notice, to_look, to_miss, to_copy, to_release, to_offer, to_finish}
+use Rattle.box_model.specs.Calls.{Event, Box, box, call, step, stepped, to_notice, to_look, to_miss, to_copy, to_release, to_offer, to_finish}
 use Rattle.box_theorem.specs.Kit.{can, drain_in, box_of}
-use Rattle.box_theorem.specs.Events.{step_event}
-use Rattle.box_theorem.specs.Run.{call_of}
+use Rattle.box_theorem.specs.Run.{stepping, call_of}
 use Rattle.box_theorem.proofs.Calls.{Refines, after_is}
-
--- the event of a step that was answered so, and the box after it
-abbrev stepping : P.Phase → ReceiveBox → StepSaid × ReceiveBox → Event can × ReceiveBox
-stepping p g r = (step_event p g r.0, r.1)
 
 module _ (g : ReceiveBox) (k : Good g) where
   -- what the model makes of a step
   abbrev model : Calls.Phase can → Event can × Box can
-  model p = stepped can (entries_of g.fifo) (view queue_limit g.queue) g.next g.words p
+  model p = stepped can (entries_of g.fifo) (view queue_limit g.queue) g.words p
 
   -- LOOK
   look-by : (b : Bool) → eqb g.fifo.count 0 ≡ b → Refines (stepping phase.Look g (look_step g)) (model to_look)
@@ -89,15 +82,15 @@ module _ (g : ReceiveBox) (k : Good g) where
   release-refines l = let v = released-entries g.fifo l in record { event = rw v; state = rw v }
 
   -- AN OFFER, stored or lost
-  stored-by : ltb g.queue.count queue_limit ≡ true → (x : Record) (c : Command) (p l : P.Phase) (m : ℕ)
-      → offering g x c p l m ≡ quietly c (empty_handed g (pushed queue_limit g.queue x) p m)
+  stored-by : ltb g.queue.count queue_limit ≡ true → (x : Record) (c : Command) (p l : P.Phase)
+      → offering g x c p l ≡ quietly c (with_of g g.fifo (pushed queue_limit g.queue x) p g.held)
   unfolding offering offer_of
-  stored-by e x c p l m = simp (queue-ok queue_limit g.queue k.queue, e)
+  stored-by e x c p l = simp (queue-ok queue_limit g.queue k.queue, e)
 
-  lost-by : ltb g.queue.count queue_limit ≡ false → (x : Record) (c : Command) (p l : P.Phase) (m : ℕ)
-      → offering g x c p l m ≡ ((gives lost, c, x), empty_handed g g.queue l m)
+  lost-by : ltb g.queue.count queue_limit ≡ false → (x : Record) (c : Command) (p l : P.Phase)
+      → offering g x c p l ≡ ((gives lost, c, x), with_of g g.fifo g.queue l g.held)
   unfolding offering offer_of
-  lost-by e x c p l m = simp (queue-ok queue_limit g.queue k.queue, e)
+  lost-by e x c p l = simp (queue-ok queue_limit g.queue k.queue, e)
 
   model-stored : ltb g.queue.count queue_limit ≡ true → (x : Record) → offer can (view queue_limit g.queue) x ≡ (none, view queue_limit (pushed queue_limit g.queue x))
   model-stored e x = rw (length-tabulate g.queue.count (record_at queue_limit g.queue), e, pushed-view g.queue x k.places (ltb-true _ _ e))
@@ -119,13 +112,13 @@ module _ (g : ReceiveBox) (k : Good g) where
   notice-by : (b : Bool) → ltb g.queue.count queue_limit ≡ b → Refines (stepping phase.Notice g (notice_step g)) (model to_notice)
   unfolding notice_step
   notice-by true e =
-      let c = stored-by e (numbered g.next bus_off) in
-      let m = model-stored e (numbered g.next bus_off) in
-      record { event = rw (c, m); state = rw (c, m, after_is g.words blank) }
+      let c = stored-by e bus_off in
+      let m = model-stored e bus_off in
+      record { event = rw (c, m); state = rw (c, m, after_is g.words g.held) }
   notice-by false e =
-      let c = lost-by e (numbered g.next bus_off) in
-      let m = model-lost e (numbered g.next bus_off) in
-      record { event = rw (c, m); state = rw (c, m, after_is g.words blank) }
+      let c = lost-by e bus_off in
+      let m = model-lost e bus_off in
+      record { event = rw (c, m); state = rw (c, m, after_is g.words g.held) }
 
   -- FINISH
   finish-refines : Refines (stepping phase.Finish g (finish_step g)) (model to_finish)
@@ -134,12 +127,12 @@ module _ (g : ReceiveBox) (k : Good g) where
 
   -- the step that is next
   onto : (p : P.Phase) → g.phase ≡ p → (x : Event can × ReceiveBox)
-      → Refines x (call can (box (entries_of g.fifo) (view queue_limit g.queue) g.next (drain_in p g.words g.held)) steps) → Refines x (call can (box_of g) steps)
+      → Refines x (call can (box (entries_of g.fifo) (view queue_limit g.queue) (drain_in p g.words g.held)) step) → Refines x (call can (box_of g) step)
   onto p e x r =
-      let c = ap (λ (z : P.Phase). call can (box (entries_of g.fifo) (view queue_limit g.queue) g.next (drain_in z g.words g.held)) steps) (sym e) in
+      let c = ap (λ (z : P.Phase). call can (box (entries_of g.fifo) (view queue_limit g.queue) (drain_in z g.words g.held)) step) (sym e) in
       record { event = r.event ∙ ap (λ (y : Event can × Box can). y.0) c; state = r.state ∙ ap (λ (y : Event can × Box can). y.1) c }
 
-  by-phase : (p : P.Phase) → g.phase ≡ p → phase_ok p g ≡ true → Refines (stepping p g (by_phase p g)) (call can (box_of g) steps)
+  by-phase : (p : P.Phase) → g.phase ≡ p → phase_ok p g ≡ true → Refines (stepping p g (by_phase p g)) (call can (box_of g) step)
   by-phase phase.Idle e n = record { event = rw e; state = rw e }
   by-phase phase.Notice e n = onto phase.Notice e (stepping phase.Notice g (notice_step g)) (notice-by (ltb g.queue.count queue_limit) refl)
   by-phase phase.Look e n = onto phase.Look e (stepping phase.Look g (look_step g)) (look-by (eqb g.fifo.count 0) refl)
@@ -153,10 +146,5 @@ module _ (g : ReceiveBox) (k : Good g) where
   unfolding step_of
   step_is = simp (good-ok g k)
 
-pub step-refines : (g : ReceiveBox) → Good g → Refines (call_of g steps) (call can (box_of g) steps)
-step-refines g k =
-    let r = by-phase g k g.phase refl k.next in
-    record {
-      event = ap (λ (x : StepSaid × ReceiveBox). step_event g.phase g x.0) (step_is g k) ∙ r.event;
-      state = ap (λ (x : StepSaid × ReceiveBox). box_of x.1) (step_is g k) ∙ r.state;
-    }
+pub step-refines : (g : ReceiveBox) → Good g → Refines (call_of g step) (call can (box_of g) step)
+step-refines g k = rw (step_is g k) (by-phase g k g.phase refl k.next)

@@ -1,8 +1,7 @@
--- The box as the model's lists: what arrives, what the FIFO and the queue hold, the words of a start, the number and the step that are next.
--- Source: the outline, "The box"; request #108: the number is part of the record.
-use Rattle.std.specs.Prelude.{ℕ, refl, not, List}
+-- The box as the model's lists: what arrives, what the FIFO and the queue hold, the words of a start, and the step that is next.
+-- Source: the outline, "The box".
+use Rattle.std.specs.Prelude.{ℕ, not, List}
 use Rattle.box_records.specs.declared.Record.{Record}
-use Rattle.box_records.specs.Number.{numbered}
 use Rattle.box_queue.specs.Ring.{queue_limit}
 use Rattle.box_queue.specs.View.{view}
 use Rattle.box_fifo.specs.declared.Entry.{Entry}
@@ -13,7 +12,7 @@ use Rattle.box_state.specs.declared.Phase as P
 use Rattle.box_state.specs.declared.Phase.TheVariants as phase
 use Rattle.box_state.specs.declared.ReceiveBox.{ReceiveBox}
 use Rattle.box_state.specs.Rules.{record_of, bus_off}
-use Rattle.box_model.specs.Lists.{Kit, State}
+use Rattle.box_model.specs.Lists.{Kit}
 use Rattle.box_model.specs.Calls.{Box, box, Drain, idle, busy, to_notice, to_look, to_miss, to_copy, to_release, to_offer, to_finish}
 
 abbrev pub can : Kit
@@ -29,9 +28,6 @@ can =
       weigh = weight_of;
       copy = record_of;
       bus_off = bus_off;
-      stamp = numbered;
-      number_of = λ r. r.number;
-      stamped = λ n r. refl;
       due = notice_due;
       receive = receive_due;
       places = queue_limit;
@@ -48,8 +44,4 @@ drain_in phase.Offer w r = busy w (to_offer r)
 drain_in phase.Finish w r = busy w to_finish
 
 abbrev pub box_of : ReceiveBox → Box can
-box_of g = box (entries_of g.fifo) (view queue_limit g.queue) g.next (drain_in g.phase g.words g.held)
-
--- the FIFO, the queue and the next number
-abbrev pub state_of : ReceiveBox → State can
-state_of g = (entries_of g.fifo, view queue_limit g.queue, g.next)
+box_of g = box (entries_of g.fifo) (view queue_limit g.queue) (drain_in g.phase g.words g.held)

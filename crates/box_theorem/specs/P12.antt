@@ -4,55 +4,52 @@ use Rattle.std.specs.Prelude.{ℕ, zero, suc, not, List, [], ◌∷◌, ◌++◌
 use Rattle.laws.specs.Row.{bit}
 use Rattle.box_records.specs.declared.RecordKind.TheVariants.{Frame}
 use Rattle.box_records.specs.declared.Record.{Record}
-use Rattle.box_records.specs.Calls.{arrives, starts, steps}
 use Rattle.box_fifo.specs.declared.Entry.{Entry}
 use Rattle.box_fifo.specs.Ring.{entries_of}
 use Rattle.box_words.specs.declared.Words.{Words}
 use Rattle.box_state.specs.declared.ReceiveBox.{ReceiveBox}
 use Rattle.box_state.specs.Calls.{fresh_box}
-use Rattle.box_drain.specs.Run.{BoxCall, after_all}
-use Rattle.box_model.specs.Calls.{Event}
+use Rattle.box_model.specs.Calls.{Call, arrives, start, step, Event}
 use Rattle.box_model.specs.Log.{actions}
-use Rattle.box_model.specs.Places.{all_lost}
+use Rattle.box_model.specs.Places.{lost}
 use Rattle.box_theorem.specs.Kit.{can}
-use Rattle.box_theorem.specs.Run.{run_of}
+use Rattle.box_theorem.specs.Run.{run_of, end_of}
 
 -- a standard frame of `n` data bytes, all zero
 abbrev pub frame : ℕ → List ℕ
 frame n = n ∷ replicate 12 0
 
--- its record, with a number
-abbrev pub framed : ℕ → ℕ → Record
-framed n k = record { kind = Frame; bytes = frame n; number = k }
+abbrev pub framed : ℕ → Record
+framed n = record { kind = Frame; bytes = frame n }
 
 -- receive is set, no more
 abbrev pub receiving : Words
 receiving = record { interrupt = 1; enable = 0; status = 0 }
 
 -- look, miss, copy, release, offer; look; finish
-abbrev pub drained : List BoxCall
-drained = starts receiving ∷ replicate 7 steps
+abbrev pub drained : List (Call can)
+drained = start receiving ∷ replicate 7 step
 
-abbrev pub repeated : ℕ → List BoxCall → List BoxCall
-repeated zero cs = []
-repeated (suc n) cs = cs ++ repeated n cs
+abbrev pub times : ℕ → List (Call can) → List (Call can)
+times zero cs = []
+times (suc n) cs = cs ++ times n cs
 
-abbrev pub before : List BoxCall
-before = repeated 31 (arrives (frame 0) ∷ drained) ++ (arrives (frame 1) ∷ arrives (frame 2) ∷ arrives (frame 3) ∷ [])
+abbrev pub before : List (Call can)
+before = times 31 (arrives (frame 0) ∷ drained) ++ (arrives (frame 1) ∷ arrives (frame 2) ∷ arrives (frame 3) ∷ [])
 
 -- five steps for each of two moves, and the finish
-abbrev pub last_drain : List BoxCall
-last_drain = starts receiving ∷ replicate 11 steps
+abbrev pub last_drain : List (Call can)
+last_drain = start receiving ∷ replicate 11 step
 
 -- the box before the last drain, what that drain did, and the box after it
 abbrev pub box_before : ReceiveBox
-box_before = after_all fresh_box before
+box_before = end_of fresh_box before
 
 abbrev pub drain_did : List (Event can)
 drain_did = run_of box_before last_drain
 
 abbrev pub box_after : ReceiveBox
-box_after = after_all box_before last_drain
+box_after = end_of box_before last_drain
 
 -- the number of queued records, a 1 for each whole entry of the FIFO (0 for a mark), and the number of records that a drain lost
 abbrev pub queued_in : ReceiveBox → ℕ
@@ -62,4 +59,4 @@ abbrev pub wholes_in : ReceiveBox → List ℕ
 wholes_in g = map (λ (e : Entry). bit (not e.mark)) (entries_of g.fifo)
 
 abbrev pub lost_by : List (Event can) → ℕ
-lost_by es = length (all_lost can (actions can es))
+lost_by es = length (lost can (actions can es))

@@ -1,4 +1,5 @@
 // The words of a start, what they call for, and what a finish answers.
+#![tactic(auto)]
 ghost use Rattle.std.specs.Prelude.{◌≡◌};
 ghost use Rattle.box_words.specs.Due.{receive_due, notice_due, error_due, finish_of};
 

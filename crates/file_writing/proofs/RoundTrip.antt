@@ -11,7 +11,7 @@ use native.Mathlib.Nat.{zero-add}
 use native.Mathlib.Numerals.{one-add}
 use native.Mathlib.Omega.{arith}
 use borrow.Author.Tests.{le-ltb, ltb-false}
-use Rattle.laws.specs.Said.{refuses, gives}
+use Rattle.laws.specs.Said.{gives}
 use Rattle.laws.specs.Laid.{written}
 use Rattle.laws.specs.Tabulate.{Bytes}
 use Rattle.file_reading.specs.Format.{filter_limit, frame_limit, filter_bytes, frame_bytes, filters_end, start_of_frames, count_at, File, filters_in, frames_in}
@@ -34,7 +34,7 @@ kinds-good filters (suc n) i h j l = by (ltb 1 (get_or filters (filter_bytes * i
     by false e (suc j) l h r = subst (λ (k : ℕ). get_or filters (filter_bytes * k) 0 ≤ 1) {x = i + 1 + j} {y = i + suc j} (omega arith) (r (omega arith) j (omega arith))
 
 module _ (filters frames : List ℕ) where
-  pub file-long : length (file_of filters frames) ≡ needed filters frames
+  file-long : length (file_of filters frames) ≡ needed filters frames
   file-long = simp length-append (omega arith)
 
   -- behind the first count, and behind the filters
@@ -99,28 +99,6 @@ kinds-all filters (suc n) i kinds =
     rw (le-ltb 1 (get_or filters (filter_bytes * i) 0) first)
     (kinds-all filters n (i + 1) (λ j l. subst (λ (m : ℕ). get_or filters (filter_bytes * m) 0 ≤ 1) {x = i + suc j} {y = i + 1 + j} (omega arith) (kinds (suc j) (omega arith))) ∙ omega arith)
 
--- whole entries within their limits, each filter of kind 0 or 1: only the room is left to judge
-pub entries-write : (filters frames : List ℕ) (n m room : ℕ) → length filters ≡ filter_bytes * n → length frames ≡ frame_bytes * m → n ≤ filter_limit → m ≤ frame_limit
-    → ((j : ℕ) → j < n → get_or filters (filter_bytes * (0 + j)) 0 ≤ 1)
-    → write_of filters frames room ≡ cond (ltb room (needed filters frames)) (refuses 6 (needed filters frames ∷ [])) (gives (needed filters frames))
-unfolding write_of
-entries-write filters frames n m room filters-long frames-long few some kinds =
-    let q : filter_bytes * n / filter_bytes ≡ n = omega arith in
-    let r : frame_bytes * m / frame_bytes ≡ m = omega arith in
-    let k : first_bad_kind filters n 0 ≡ 0 + n = kinds-all filters n 0 kinds in
-    rw (
-      filters-long,
-      frames-long,
-      q,
-      r,
-      k,
-      le-ltb 0 (filter_bytes * n % filter_bytes) (omega arith),
-      le-ltb 0 (frame_bytes * m % frame_bytes) (omega arith),
-      le-ltb filter_limit n few,
-      le-ltb frame_limit m some,
-      le-ltb (0 + n) n (omega arith),
-    )
-
 module _ (s : List ℕ) (n m : ℕ) (file : File s n m) where
   filters-long : length (filters_in s n) ≡ filter_bytes * n
   filters-long = length-take-le (filter_bytes * n) (drop 1 s) (simp length-drop (omega (arith, file.whole)))
@@ -158,10 +136,26 @@ module _ (s : List ℕ) (n m : ℕ) (file : File s n m) where
       rw (e, get_or-take (filter_bytes * n) (drop 1 s) (filter_bytes * j) 0 (omega arith), get_or-drop 1 s (filter_bytes * j) 0) (file.kinds j l)
 
   good-write : (room : ℕ) → length s ≤ room → write_of (filters_in s n) (frames_in s n m) room ≡ gives (length s)
+  unfolding write_of
   good-write room h =
-      let long : needed (filters_in s n) (frames_in s n m) ≡ length s = rw (filters-long, frames-long) (omega (arith, file.whole)) in
-      entries-write (filters_in s n) (frames_in s n m) n m room filters-long frames-long file.filters-within file.frames-within kind-in
-      ∙ rw (long, le-ltb room (length s) h)
+      let long : length s ≡ start_of_frames n + frame_bytes * m = file.whole in
+      let q : filter_bytes * n / filter_bytes ≡ n = omega arith in
+      let r : frame_bytes * m / frame_bytes ≡ m = omega arith in
+      let k : first_bad_kind (filters_in s n) n 0 ≡ 0 + n = kinds-all (filters_in s n) n 0 kind-in in
+      rw (
+        filters-long,
+        frames-long,
+        q,
+        r,
+        k,
+        le-ltb 0 (filter_bytes * n % filter_bytes) (omega arith),
+        le-ltb 0 (frame_bytes * m % frame_bytes) (omega arith),
+        le-ltb filter_limit n file.filters-within,
+        le-ltb frame_limit m file.frames-within,
+        le-ltb (0 + n) n (omega arith),
+        le-ltb room (3 + filter_bytes * n + frame_bytes * m) (omega arith),
+      )
+      (ap gives (sym long))
 
 -- writing what was read gives the same bytes
 pub write-good : (s : List ℕ) (sections : Sections) (room : ℕ) → read_of s ≡ gives sections → Bytes s → length s ≤ room

@@ -1,4 +1,5 @@
 // A filter from a list: the single filter that lets all identifiers of a list through, and as little else as possible.
+#![tactic(auto)]
 ghost use Rattle.std.specs.Prelude.{◌≡◌, ℕ, ◌^◌, ◌<◌, ◌≤◌, length, replicate};
 ghost use Rattle.laws.specs.Said.{gives};
 ghost use Rattle.laws.specs.Laid.{laid_first};
@@ -84,8 +85,7 @@ fn write(agreed: u32, differing: u32, width: usize, pattern: &mut [u8])
     }
 }
 
-// The registers of the single filter of an identifier pattern, RTR and payload all `x`; zeros where the compiler refuses it.
-pub fn compile(extended: bool, pattern: &[u8]) -> [u8; 8]
+fn compile(extended: bool, pattern: &[u8]) -> [u8; 8]
     ensures { result ≡ registers_for extended pattern.now }
 {
     if extended {
@@ -111,7 +111,7 @@ fn through(extended: bool, registers: &[u8; 8]) -> u32
     1 << u32::count_ones(mask >> 21)
 }
 
-pub fn refused(refusal: Refusal) -> Listed
+fn refused(refusal: Refusal) -> Listed
     ensures { listed_said result ≡ (refusal_said refusal, replicate 8 0) }
 {
     Listed {
@@ -120,8 +120,7 @@ pub fn refused(refusal: Refusal) -> Listed
     }
 }
 
-// These registers, and how many identifiers of the format they let through.
-pub fn given(extended: bool, registers: [u8; 8]) -> Listed
+fn given(extended: bool, registers: [u8; 8]) -> Listed
     ensures { listed_said result ≡ (gives (through_of extended registers), registers) }
 {
     Listed {

@@ -1,4 +1,5 @@
 // The matcher: whether a filter's registers accept a frame.
+#![tactic(auto)]
 pub mod shown;
 
 ghost use Rattle.std.specs.Prelude.{◌≡◌, [], ◌∷◌, ◌/◌, ◌%◌, ◌^◌};

@@ -9,9 +9,14 @@ use borrow.Author.Tests.{leb-true, le-leb}
 use Rattle.filter_list.specs.Answers.{first_above}
 use Rattle.filter_report.specs.Line.{digit_of, base_of, ends, closes, unblanked, judged, number_from, number_of, is_hex, word_of, line_of}
 use Rattle.filter_report.specs.Lines.{lines_of, Found, listed, above_at, wrong_at, found_by, found_from, found_in}
-use Rattle.filter_report.specs.Parts.{Within}
 use Rattle.filter_report.specs.declared.line.Line.{Line}
 use Rattle.filter_report.specs.declared.line.Line.TheVariants.{Nothing, Identifier, Above, NotANumber}
+
+abbrev Within : ℕ → Line → Type 0
+Within limit Nothing = Unit
+Within limit (Identifier n) = n ≤ limit
+Within limit Above = Unit
+Within limit NotANumber = Unit
 
 either : (limit : ℕ) (b : Bool) (l m : Line) → Within limit l → Within limit m → Within limit (cond b l m)
 either limit true l m x y = x
@@ -38,7 +43,7 @@ module _ (limit : ℕ) (hex : Bool) where
   number-of-within sixteen line =
       either limit (ltb (digit_of (get_or line 0 0)) (base_of sixteen)) (number_from limit hex sixteen 0 line) NotANumber (number-within sixteen 0 line) tt
 
-  pub line-of-within : (line : List ℕ) → Within limit (line_of limit hex line)
+  line-of-within : (line : List ℕ) → Within limit (line_of limit hex line)
   unfolding line_of word_of
   line-of-within line =
       let word = unblanked line in

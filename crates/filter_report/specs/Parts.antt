@@ -35,13 +35,6 @@ unfoldable pub line_length : List ℕ → ℕ
 line_length [] = 0
 line_length (c ∷ text) = cond (eqb c 10) 0 (suc (line_length text))
 
--- an identifier that is read is within the limit
-abbrev pub Within : ℕ → Line → Type 0
-Within limit Nothing = Unit
-Within limit (Identifier n) = n ≤ limit
-Within limit Above = Unit
-Within limit NotANumber = Unit
-
 -- a line by itself: its identifier, if any, and its fault; only a line at fault is asked for it
 abbrev pub identifiers_of : Line → List ℕ
 identifiers_of Nothing = []

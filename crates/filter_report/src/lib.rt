@@ -1,6 +1,7 @@
 // The text for a list of identifiers, given as text: the list's filter, or the line at fault.
+#![tactic(auto)]
 mod faults;
-pub mod line;
+mod line;
 mod lines;
 mod named;
 mod pieces;
@@ -9,12 +10,9 @@ mod through;
 ghost use Rattle.std.specs.Prelude.{◌≡◌, ◌+◌, ◌^◌, ◌<◌, ◌≤◌, length};
 ghost use Rattle.laws.specs.Laid.{laying, written};
 ghost use Rattle.text.specs.Laying.{laying_said};
-ghost use Rattle.text.specs.Put.{place_behind, put_at};
 ghost use Rattle.identifiers.specs.Limits.{width_of, limit_of};
 ghost use Rattle.filter_list.specs.Pattern.{pattern_of};
 ghost use Rattle.filter_list.specs.Answers.{first_above, through_of, registers_of_list};
-ghost use Rattle.filter_report.specs.Hex.{hex_of};
-ghost use Rattle.filter_report.specs.Listed.{id_text};
 ghost use Rattle.filter_report.specs.Lines.{found_in};
 ghost use Rattle.filter_report.specs.Text.{text_limit, registers_text, lines_text, filter_text, list_text, found_text, text_of};
 ghost use Rattle.filter_report.specs.Page.{Put};
@@ -27,16 +25,6 @@ use text::Laying;
 // A longer text is not read.
 pub const TEXT_LIMIT: usize = 65536;
 
-// An identifier behind a blank at a place, and the place behind it.
-pub fn put_identifier(extended: bool, id: u32, page: &mut [u8], at: usize) -> usize
-    ensures value { result ≡ place_behind at (id_text extended id) page.old }
-    ensures page_after { page.new ≡ put_at at (id_text extended id) page.old }
-{
-    let mut word = [0u8; 11];
-    let length = named::put_id(extended, id, &mut word, 0);
-    text::put_text(page, at, &word[..length])
-}
-
 fn through_in(answer: Listing) -> u32
     ensures { (result ≡ through_in answer) × (result < 2 ^ 32) }
 {
@@ -44,15 +32,6 @@ fn through_in(answer: Listing) -> u32
         Listing::Made(through) => through,
         Listing::Refused(_) => 0,
     }
-}
-
-// Eight registers in hexadecimal, for the texts of other crates.
-pub fn registers_hex(registers: &[u8; 8]) -> [u8; 16]
-    ensures { result ≡ hex_of registers.now }
-{
-    let mut digits = [0u8; 16];
-    pieces::put_hex(&mut digits, 0, registers);
-    digits
 }
 
 // A pattern and its registers, a line each, at a place, and the place after them.

@@ -176,7 +176,7 @@ fn word(line: &[u8], from: usize, hex: bool, limit: u32) -> Line
     number(line, from, hex, hex, limit)
 }
 
-pub fn read_line(line: &[u8], hex: bool, limit: u32) -> Line
+pub(crate) fn read_line(line: &[u8], hex: bool, limit: u32) -> Line
     ensures { result ≡ line_of limit hex line.now }
 {
     if ends(line, 0) {

@@ -21,7 +21,7 @@ drop-zeros (suc n) zero = rw sub-zero
 drop-zeros (suc n) (suc k) = rw suc-sub-suc (drop-zeros n k)
 
 -- data laid behind the first bytes of a buffer that is zero from there on
-pub laid-behind : (front payload : List ℕ) (n room : ℕ) → length front ≡ n
+laid-behind : (front payload : List ℕ) (n room : ℕ) → length front ≡ n
     → laid n payload (front ++ replicate room 0) ≡ front ++ (payload ++ replicate (room - length payload) 0)
 laid-behind front payload n room h =
     ap₂ (λ (x y : List ℕ). x ++ (payload ++ drop (length payload) y)) (take_at front (replicate room 0) n h) (drop_at front (replicate room 0) n h)

@@ -20,7 +20,7 @@ use Rattle.frame_building.specs.Buffer.{id_bytes_of, buffer_of}
 use Rattle.frame_building.specs.Good.{Good}
 use Rattle.frame_building.proofs.Buffer.{ids-length}
 
-pub bit_below : (b : Bool) → bit b < 2 ^ 1
+bit_below : (b : Bool) → bit b < 2 ^ 1
 bit_below false = omega arith
 bit_below true = omega arith
 

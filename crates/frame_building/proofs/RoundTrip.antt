@@ -25,7 +25,7 @@ use Rattle.frame_building.specs.Clean.{Clean}
 use Rattle.frame_building.proofs.Judged.{accepted-build}
 use Rattle.frame_building.proofs.Fields.{built-info, built-extended, built-remote, built-own, built-code, built-id, built-spare, built-length, built-data, built-rest}
 
-pub same-frame : (f g : Frame) → f.extended ≡ g.extended → f.remote ≡ g.remote → f.own ≡ g.own → f.code ≡ g.code → f.id ≡ g.id
+same-frame : (f g : Frame) → f.extended ≡ g.extended → f.remote ≡ g.remote → f.own ≡ g.own → f.code ≡ g.code → f.id ≡ g.id
     → f.payload ≡ g.payload → f ≡ g
 same-frame f g a b c d e h =
     rw (a, b, c, d, e, h)
@@ -49,7 +49,7 @@ module _ (most : ℕ) (f : Frame) (good : Good most f) where
         remote-code = λ r. rw (built-code most f good) (good.request (sym (built-remote most f good) ∙ r));
       }
 
-pub read-bit : (x : ℕ) → x < 2 → bit (eqb x 1) ≡ x
+read-bit : (x : ℕ) → x < 2 → bit (eqb x 1) ≡ x
 read-bit x h = by (eqb x 1) refl
   where
     zero_is : (n : ℕ) → n < 2 → (n ≡ 1 → ⊥) → 0 ≡ n
@@ -91,7 +91,7 @@ module _ (most : ℕ) (b : List ℕ) (long : length b ≡ 13) (small : Bytes b) 
   unfolding data_of
   data-length = length-take-le (data_length_of b) (drop (data_offset_of b) b) (simp length-drop (omega (arith, used-bound b)))
 
-  pub clean-good : Good most (frame_of b)
+  clean-good : Good most (frame_of b)
   unfolding data_length_of
   clean-good =
       record {

@@ -1,4 +1,5 @@
 // Frame information: what byte 0 of the 13-byte buffer says, and with it where the data are.
+#![tactic(auto)]
 ghost use Rattle.std.specs.Prelude.{◌≡◌};
 ghost use Rattle.frame_info.specs.Info.{extended_of, remote_of, own_of, code_of, data_length_of, data_offset_of};
 

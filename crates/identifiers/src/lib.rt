@@ -1,4 +1,6 @@
 // Identifiers: 11 bits or 29 bits, each in a struct of its own, so that one never passes for the other.
+#![tactic(auto)]
+
 ghost use Rattle.std.specs.Prelude.{◌≡◌, true, false, ◌≤◌};
 ghost use Rattle.identifiers.specs.Limits.{width_of, limit_of, within_limit};
 ghost use Rattle.identifiers.specs.Answers.{standard_said, extended_said, new_of, base_of};

@@ -50,3 +50,4 @@ same_test false false to from = refl
 
 pub is_true : (b : Bool) → T b → b ≡ true
 is_true true t = refl
+is_true false t = elim t [ ]

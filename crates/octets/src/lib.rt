@@ -1,4 +1,5 @@
-// Bytes and flags as numbers, with their bounds; a word from its four bytes, its lowest byte; a word, and thirteen or sixteen bytes, from a place on.
+// Bytes and flags as numbers, with their bounds; a word from its four bytes, its lowest byte; a word and thirteen bytes from a place on.
+#![tactic(auto)]
 ghost use Rattle.std.specs.Prelude.{◌≡◌, ◌∷◌, [], ◌<◌, ◌%◌, ◌^◌};
 ghost use Rattle.laws.specs.Row.{bit, pack, bytes};
 ghost use Rattle.octets.specs.Part.{part_or_zeros};
@@ -68,35 +69,5 @@ pub fn thirteen(bytes: &[u8], at: usize) -> [u8; 13]
         bytes[at + 10],
         bytes[at + 11],
         bytes[at + 12],
-    ]
-}
-
-// Sixteen bytes from a place on; zeros where there are fewer.
-pub fn sixteen(slice: &[u8], at: usize) -> [u8; 16]
-    ensures { result ≡ part_or_zeros 16 at slice.now }
-{
-    if at > slice.len() {
-        return [0; 16];
-    }
-    if slice.len() - at < 16 {
-        return [0; 16];
-    }
-    [
-        slice[at],
-        slice[at + 1],
-        slice[at + 2],
-        slice[at + 3],
-        slice[at + 4],
-        slice[at + 5],
-        slice[at + 6],
-        slice[at + 7],
-        slice[at + 8],
-        slice[at + 9],
-        slice[at + 10],
-        slice[at + 11],
-        slice[at + 12],
-        slice[at + 13],
-        slice[at + 14],
-        slice[at + 15],
     ]
 }

@@ -8,7 +8,7 @@ use lib.ListN.{length}
 use native.Mathlib.Omega.{arith}
 use Rattle.refusals.specs.Table.{number_of, carried_of, in_one}
 use Rattle.refusals.specs.declared.Refusal.{Refusal}
-use Rattle.refusals.specs.declared.Refusal.TheVariants.{IdentifierAboveLimit, InvalidDataLength, NonCompliantDlc, PatternLength, PatternByte, OutputTooShort, FilterKind, DrainRuns, NoDrainRuns, BrokenState, FileEnds, CountAboveLimit, BytesAfterEnd, WrongLength, EmptyList, EntryAboveLimit, MarkedEntry, EntryOutsideForm, RangeReversed, NoTime, TotalPasses, ListFull, NoFilterThere}
+use Rattle.refusals.specs.declared.Refusal.TheVariants.{IdentifierAboveLimit, InvalidDataLength, NonCompliantDlc, PatternLength, PatternByte, OutputTooShort, FilterKind, DrainRuns, NoDrainRuns, BrokenState, FileEnds, CountAboveLimit, BytesAfterEnd, WrongLength, EmptyList, EntryAboveLimit}
 
 pub number_small : (f : Refusal) → number_of f < 256
 number_small IdentifierAboveLimit = omega arith
@@ -27,13 +27,6 @@ number_small (BytesAfterEnd n) = omega arith
 number_small (WrongLength n) = omega arith
 number_small EmptyList = omega arith
 number_small (EntryAboveLimit n) = omega arith
-number_small (MarkedEntry n) = omega arith
-number_small (EntryOutsideForm n) = omega arith
-number_small RangeReversed = omega arith
-number_small NoTime = omega arith
-number_small TotalPasses = omega arith
-number_small ListFull = omega arith
-number_small NoFilterThere = omega arith
 
 -- so many numbers out of one
 pub out_of : ℕ → ℕ → List ℕ
@@ -77,10 +70,3 @@ carried-back (BytesAfterEnd n) h = refl
 carried-back (WrongLength n) h = refl
 carried-back EmptyList h = refl
 carried-back (EntryAboveLimit n) h = refl
-carried-back (MarkedEntry n) h = refl
-carried-back (EntryOutsideForm n) h = refl
-carried-back RangeReversed h = refl
-carried-back NoTime h = refl
-carried-back TotalPasses h = refl
-carried-back ListFull h = refl
-carried-back NoFilterThere h = refl

@@ -7,7 +7,7 @@ use Rattle.laws.specs.Said.{Said, refuses, gives}
 use Rattle.laws.proofs.Only.{only}
 use Rattle.refusals.specs.Table.{number_of, carried_of, refusal_said}
 use Rattle.refusals.specs.declared.Refusal.{Refusal}
-use Rattle.refusals.specs.declared.Refusal.TheVariants.{IdentifierAboveLimit, InvalidDataLength, NonCompliantDlc, PatternLength, PatternByte, OutputTooShort, FilterKind, DrainRuns, NoDrainRuns, BrokenState, FileEnds, CountAboveLimit, BytesAfterEnd, WrongLength, EmptyList, EntryAboveLimit, MarkedEntry, EntryOutsideForm, RangeReversed, NoTime, TotalPasses, ListFull, NoFilterThere}
+use Rattle.refusals.specs.declared.Refusal.TheVariants.{IdentifierAboveLimit, InvalidDataLength, NonCompliantDlc, PatternLength, PatternByte, OutputTooShort, FilterKind, DrainRuns, NoDrainRuns, BrokenState, FileEnds, CountAboveLimit, BytesAfterEnd, WrongLength, EmptyList, EntryAboveLimit}
 
 -- what is read where the table has no such row
 abbrev none : Refusal
@@ -17,15 +17,13 @@ none = EmptyList
 pub refusal_at : ℕ → List ℕ → Refusal
 refusal_at k [] =
     get_or
-    (IdentifierAboveLimit ∷ none ∷ none ∷ none ∷ none ∷ none ∷ none ∷ DrainRuns ∷ NoDrainRuns ∷ BrokenState ∷ none ∷ none ∷ none ∷ none ∷ EmptyList
-    ∷ none ∷ none ∷ RangeReversed ∷ NoTime ∷ TotalPasses ∷ ListFull ∷ NoFilterThere ∷ [])
+    (IdentifierAboveLimit ∷ none ∷ none ∷ none ∷ none ∷ none ∷ none ∷ DrainRuns ∷ NoDrainRuns ∷ BrokenState ∷ none ∷ none ∷ none ∷ none ∷ EmptyList ∷ [])
     (k - 1)
     none
 refusal_at k (n ∷ more) =
     get_or
     (EntryAboveLimit n ∷ InvalidDataLength n ∷ NonCompliantDlc n ∷ PatternLength n ∷ PatternByte n (get_or more 0 0) (get_or more 1 0) ∷ OutputTooShort n ∷ FilterKind n
-    ∷ none ∷ none ∷ none ∷ FileEnds n ∷ CountAboveLimit n ∷ BytesAfterEnd n ∷ WrongLength n
-    ∷ none ∷ MarkedEntry n ∷ EntryOutsideForm n ∷ [])
+    ∷ none ∷ none ∷ none ∷ FileEnds n ∷ CountAboveLimit n ∷ BytesAfterEnd n ∷ WrongLength n ∷ [])
     (k - 1)
     none
 
@@ -47,13 +45,6 @@ refusal-at (BytesAfterEnd n) = refl
 refusal-at (WrongLength n) = refl
 refusal-at EmptyList = refl
 refusal-at (EntryAboveLimit n) = refl
-refusal-at (MarkedEntry n) = refl
-refusal-at (EntryOutsideForm n) = refl
-refusal-at RangeReversed = refl
-refusal-at NoTime = refl
-refusal-at TotalPasses = refl
-refusal-at ListFull = refl
-refusal-at NoFilterThere = refl
 
 back : {A : Type 0} → Said A → Refusal
 back (refuses k n) = refusal_at k n

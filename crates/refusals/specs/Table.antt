@@ -1,10 +1,9 @@
 -- The refusals in the outline's numbers, and the numbers that each carries.
--- Source: the outline, "Refusals by number"; request #102 for 15, and for the index that 1 carries; #105 for 16 and 17; #106 for the three numbers of 5; #107 for 18;
--- #113 for 19 and 20; #114 for 21 and 22.
+-- Source: the outline, "Refusals by number"; request #102 for 15, and for the index that 1 carries; request #106 for the three numbers of 5.
 use Rattle.std.specs.Prelude.{ℕ, ◌+◌, ◌*◌, List, [], ◌∷◌}
 use Rattle.laws.specs.Said.{Said, refuses}
 use Rattle.refusals.specs.declared.Refusal.{Refusal}
-use Rattle.refusals.specs.declared.Refusal.TheVariants.{IdentifierAboveLimit, InvalidDataLength, NonCompliantDlc, PatternLength, PatternByte, OutputTooShort, FilterKind, DrainRuns, NoDrainRuns, BrokenState, FileEnds, CountAboveLimit, BytesAfterEnd, WrongLength, EmptyList, EntryAboveLimit, MarkedEntry, EntryOutsideForm, RangeReversed, NoTime, TotalPasses, ListFull, NoFilterThere}
+use Rattle.refusals.specs.declared.Refusal.TheVariants.{IdentifierAboveLimit, InvalidDataLength, NonCompliantDlc, PatternLength, PatternByte, OutputTooShort, FilterKind, DrainRuns, NoDrainRuns, BrokenState, FileEnds, CountAboveLimit, BytesAfterEnd, WrongLength, EmptyList, EntryAboveLimit}
 
 abbrev pub number_of : Refusal → ℕ
 number_of IdentifierAboveLimit = 1
@@ -23,13 +22,6 @@ number_of (BytesAfterEnd offset) = 13
 number_of (WrongLength at) = 14
 number_of EmptyList = 15
 number_of (EntryAboveLimit index) = 1
-number_of (MarkedEntry index) = 16
-number_of (EntryOutsideForm index) = 17
-number_of RangeReversed = 18
-number_of NoTime = 19
-number_of TotalPasses = 20
-number_of ListFull = 21
-number_of NoFilterThere = 22
 
 abbrev pub carried_of : Refusal → List ℕ
 carried_of IdentifierAboveLimit = []
@@ -48,13 +40,6 @@ carried_of (BytesAfterEnd offset) = offset ∷ []
 carried_of (WrongLength at) = at ∷ []
 carried_of EmptyList = []
 carried_of (EntryAboveLimit index) = index ∷ []
-carried_of (MarkedEntry index) = index ∷ []
-carried_of (EntryOutsideForm index) = index ∷ []
-carried_of RangeReversed = []
-carried_of NoTime = []
-carried_of TotalPasses = []
-carried_of ListFull = []
-carried_of NoFilterThere = []
 
 abbrev pub refusal_said : {A : Type 0} → Refusal → Said A
 refusal_said f = refuses (number_of f) (carried_of f)

@@ -1,4 +1,5 @@
 // The refusals of the outline and of its change requests, in the order in which they were added, each with what it carries.
+#![tactic(auto)]
 ghost use Rattle.std.specs.Prelude.{◌≡◌};
 ghost use Rattle.refusals.specs.Table.{number_of, carried_of, in_one};
 
@@ -30,27 +31,12 @@ pub enum Refusal {
     CountAboveLimit(usize),
     // Bytes after the last frame: the offset of the first.
     BytesAfterEnd(usize),
-    // Entries that are not whole, or an exported slice of the wrong length: the section, the index of the partial entry,
-    // or the argument from 0.
+    // Entries that are not whole, or an exported slice of the wrong length: the section, or the argument from 0.
     WrongLength(usize),
     // A list with no entry.
     EmptyList,
     // An identifier above its limit in a list: its index.
     EntryAboveLimit(usize),
-    // An entry of a run that is marked as a self-reception or as an error record: its index.
-    MarkedEntry(usize),
-    // An entry of a run that is outside its form: its index.
-    EntryOutsideForm(usize),
-    // A range whose first identifier is above its last.
-    RangeReversed,
-    // A bit rate or a span of zero.
-    NoTime,
-    // A total, or a number of the load, that would pass 64 bits.
-    TotalPasses,
-    // A filter to be added to a list that is full.
-    ListFull,
-    // No filter of a list has that place.
-    NoFilterThere,
 }
 
 impl Refusal {
@@ -75,13 +61,6 @@ impl Refusal {
             Refusal::WrongLength(_) => 14,
             Refusal::EmptyList => 15,
             Refusal::EntryAboveLimit(_) => 1,
-            Refusal::MarkedEntry(_) => 16,
-            Refusal::EntryOutsideForm(_) => 17,
-            Refusal::RangeReversed => 18,
-            Refusal::NoTime => 19,
-            Refusal::TotalPasses => 20,
-            Refusal::ListFull => 21,
-            Refusal::NoFilterThere => 22,
         }
     }
 
@@ -108,13 +87,6 @@ impl Refusal {
             Refusal::WrongLength(at) => at as u64,
             Refusal::EmptyList => 0,
             Refusal::EntryAboveLimit(index) => index as u64,
-            Refusal::MarkedEntry(index) => index as u64,
-            Refusal::EntryOutsideForm(index) => index as u64,
-            Refusal::RangeReversed => 0,
-            Refusal::NoTime => 0,
-            Refusal::TotalPasses => 0,
-            Refusal::ListFull => 0,
-            Refusal::NoFilterThere => 0,
         }
     }
 }

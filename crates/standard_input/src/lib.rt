@@ -1,4 +1,5 @@
 // Standard input, for the programs.
+#![tactic(auto)]
 ghost use Rattle.standard_input.specs.Within.{Within};
 
 use libc::STDIN_FILENO;

@@ -1,4 +1,5 @@
 // Replays the Rust's stored answers (on standard input, a line each; its first lines say how) and counts those that ours differ from.
+#![tactic(auto)]
 mod compilers;
 mod replay;
 mod text;

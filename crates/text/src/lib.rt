@@ -1,5 +1,7 @@
 // Texts and numbers put into a lent output, each where it fits, and the place behind it; where it does not fit, all stays.
 // A whole text laid into one, and its length, or the refusal.
+#![tactic(auto)]
+
 ghost use Rattle.std.specs.Prelude.{◌≡◌, ◌+◌, ◌/◌, ◌≤◌, length};
 ghost use Rattle.laws.specs.Laid.{laid, laying, written};
 ghost use Rattle.text.specs.Decimal.{decimal};

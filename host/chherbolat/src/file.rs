@@ -1,4 +1,4 @@
-//! Frame files: read, written, salvaged and reported on. Each output is lent, and the part that was written is given back.
+//! Frame files: read, written and reported on. Each output is lent, and the part that was written is given back.
 use crate::{Result, raw, refusal::result};
 
 /// Where a file's sections are: filters of 9 bytes, a kind and its registers, and frames of 13.
@@ -28,33 +28,6 @@ pub fn write<'a>(filters: &[u8], frames: &[u8], out: &'a mut [u8]) -> Result<&'a
         )
     })?;
     Ok(&out[..length as usize])
-}
-
-/// What a salvage left out: announced entries that are not in the file written, and bytes that belong to nothing.
-#[derive(Debug, Clone, Copy, PartialEq, Eq)]
-pub struct Changes {
-    pub filters_dropped: u64,
-    pub frames_dropped: u64,
-    pub bytes_cut: u64,
-}
-
-/// A file that the reader accepts, of what is whole in one that was cut or spoilt. It was good before exactly if nothing
-/// was changed and the length is its own.
-pub fn salvage<'a>(file: &[u8], out: &'a mut [u8]) -> Result<(&'a [u8], Changes)> {
-    let mut words = [[0; 8]; 3];
-    let changes = words.as_flattened_mut();
-    let length = result(unsafe {
-        raw::chherbolat_salvage(
-            file.as_ptr(),
-            file.len(),
-            out.as_mut_ptr(),
-            out.len(),
-            changes.as_mut_ptr(),
-            changes.len(),
-        )
-    })?;
-    let [filters_dropped, frames_dropped, bytes_cut] = words.map(u64::from_be_bytes);
-    Ok((&out[..length as usize], Changes { filters_dropped, frames_dropped, bytes_cut }))
 }
 
 /// A file that is refused is reported on too: the text says so.

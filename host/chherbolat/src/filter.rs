@@ -1,5 +1,4 @@
-//! Filters: their registers, made from patterns, from code and mask and from a list, the patterns of a range, and which
-//! frames filters accept.
+//! Filters: their registers, made from patterns, from code and mask and from a list, and which frames they accept.
 use crate::{FRAME_LENGTH, Format, Frame, REGISTERS_LENGTH, Result, raw, refusal::result};
 use answer::Answer;
 
@@ -35,36 +34,6 @@ pub struct Listed {
 impl Listed {
     pub fn pattern(&self) -> &str {
         str::from_utf8(&self.characters[..self.width]).expect("a pattern is of the characters 0, 1 and x")
-    }
-}
-
-/// No range has more patterns.
-const MOST_PATTERNS: usize = 56;
-
-/// The patterns of a range of identifiers, in rising order.
-#[derive(Debug, Clone, Copy, PartialEq, Eq)]
-pub struct Patterns {
-    characters: [u8; 29 * MOST_PATTERNS],
-    width: usize,
-    count: usize,
-}
-
-impl Patterns {
-    /// As few patterns as can be, their `x` only at the tail, that together accept the identifiers from `first` to
-    /// `last` and no others.
-    pub fn from_range(format: Format, first: u32, last: u32) -> Result<Self> {
-        let (extended, width) = if format == Format::Extended { (true, 29) } else { (false, 11) };
-        let mut characters = [0; 29 * MOST_PATTERNS];
-        let count = result(unsafe {
-            let (to, room) = (characters.as_mut_ptr(), characters.len());
-            raw::chherbolat_patterns_from_range(extended, first, last, to, room)
-        })?;
-        Ok(Patterns { characters, width, count: count as usize })
-    }
-
-    pub fn iter(&self) -> impl ExactSizeIterator<Item = &str> {
-        let patterns = self.characters[..self.count * self.width].chunks(self.width);
-        patterns.map(|pattern| str::from_utf8(pattern).expect("a pattern is of the characters 0, 1 and x"))
     }
 }
 
@@ -224,27 +193,6 @@ impl Filter {
                 extended,
                 list.as_ptr(),
                 list.len(),
-                characters.as_mut_ptr(),
-                characters.len(),
-                registers.as_mut_ptr(),
-                REGISTERS_LENGTH,
-            )
-        })?;
-        Ok(Listed { filter: Filter { kind: Kind::Single, registers }, through, characters, width })
-    }
-
-    /// The single filter that lets through what either of two identifier patterns does, and as little else as can be.
-    pub fn join(format: Format, first: &str, second: &str) -> Result<Listed> {
-        let (extended, width) = if format == Format::Extended { (true, 29) } else { (false, 11) };
-        let mut characters = [0; 29];
-        let mut registers = [0; REGISTERS_LENGTH];
-        let through = result(unsafe {
-            raw::chherbolat_filter_join(
-                extended,
-                first.as_ptr(),
-                first.len(),
-                second.as_ptr(),
-                second.len(),
                 characters.as_mut_ptr(),
                 characters.len(),
                 registers.as_mut_ptr(),

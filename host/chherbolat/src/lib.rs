@@ -10,19 +10,15 @@ pub mod file;
 mod filter;
 mod frame;
 mod identifier;
-pub mod load;
 pub mod raw;
 pub mod receive_box;
 mod refusal;
-pub mod socketcan;
-pub mod wake;
 
-pub use filter::{CodeMask, Filter, Kind, Listed, Patterns};
+pub use filter::{CodeMask, Filter, Kind, Listed};
 pub use frame::Frame;
 pub use identifier::{ExtendedId, Format, Id, StandardId};
 pub use receive_box::ReceiveBox;
 pub use refusal::{PatternByte, Refusal, Refused, Result};
-pub use wake::WakeList;
 
 pub const FRAME_LENGTH: usize = 13;
 pub const REGISTERS_LENGTH: usize = 8;

@@ -157,54 +157,12 @@ unsafe extern "C" {
         registers_length: usize,
     ) -> Answer;
 
-    pub fn chherbolat_patterns_from_range(
-        extended: bool,
-        first: u32,
-        last: u32,
-        patterns: *mut u8,
-        patterns_length: usize,
-    ) -> Answer;
-    pub fn chherbolat_filter_join(
-        extended: bool,
-        first: *const u8,
-        first_length: usize,
-        second: *const u8,
-        second_length: usize,
-        pattern: *mut u8,
-        pattern_length: usize,
-        registers: *mut u8,
-        registers_length: usize,
-    ) -> Answer;
-
     pub fn chherbolat_matcher_accepts(
         kind: u8,
         registers: *const u8,
         registers_length: usize,
         frame: *const u8,
         frame_length: usize,
-    ) -> Answer;
-
-    pub fn chherbolat_wake_add(
-        list: *mut u8,
-        list_length: usize,
-        kind: u8,
-        registers: *const u8,
-        registers_length: usize,
-    ) -> Answer;
-    pub fn chherbolat_wake_remove(list: *mut u8, list_length: usize, place: usize) -> Answer;
-    pub fn chherbolat_wake_may(list: *const u8, list_length: usize, id: u32) -> Answer;
-
-    pub fn chherbolat_to_socketcan(
-        buffers: *const u8,
-        buffers_length: usize,
-        out: *mut u8,
-        out_length: usize,
-    ) -> Answer;
-    pub fn chherbolat_from_socketcan(
-        records: *const u8,
-        records_length: usize,
-        out: *mut u8,
-        out_length: usize,
     ) -> Answer;
 
     pub fn chherbolat_read_file(file: *const u8, file_length: usize) -> Answer;
@@ -217,26 +175,7 @@ unsafe extern "C" {
         out_length: usize,
     ) -> Answer;
 
-    pub fn chherbolat_salvage(
-        file: *const u8,
-        file_length: usize,
-        out: *mut u8,
-        out_length: usize,
-        changes: *mut u8,
-        changes_length: usize,
-    ) -> Answer;
-
     pub fn chherbolat_report(file: *const u8, file_length: usize, out: *mut u8, out_length: usize) -> Answer;
-
-    pub fn chherbolat_load_add(totals: *mut u8, totals_length: usize, file: *const u8, file_length: usize) -> Answer;
-    pub fn chherbolat_load(
-        totals: *const u8,
-        totals_length: usize,
-        rate: u64,
-        span: u64,
-        out: *mut u8,
-        out_length: usize,
-    ) -> Answer;
 
     pub fn chherbolat_transmit(status: u32, error_passive: bool) -> Answer;
     pub fn chherbolat_poll(status: u32, error_passive: bool, in_flight: bool) -> Answer;

@@ -5,12 +5,9 @@ use crate::{
     refusal::{refuse, result},
 };
 
-pub const STATE_LENGTH: usize = 1512;
+pub const STATE_LENGTH: usize = 1376;
 const LONGEST_CALL: usize = 1 + FRAME_LENGTH;
-const RECORD_LENGTH: usize = 1 + FRAME_LENGTH + 4;
-const TAKE_ANSWER: usize = 2 + RECORD_LENGTH;
-const WAKES: usize = 3 + RECORD_LENGTH;
-const LONGEST_ANSWER: usize = WAKES + 6;
+const LONGEST_ANSWER: usize = 23;
 
 const ARRIVAL: u8 = 1;
 const TAKE: u8 = 2;
@@ -18,7 +15,6 @@ const START: u8 = 3;
 const STEP: u8 = 4;
 const LOAD: u8 = 5;
 const STATE: u8 = 6;
-const ABANDON: u8 = 7;
 
 #[derive(Debug, Clone, PartialEq, Eq)]
 pub struct ReceiveBox {
@@ -33,17 +29,10 @@ pub enum Arrival {
 }
 
 #[derive(Debug, Clone, Copy, PartialEq, Eq)]
-pub enum RecordKind {
+pub enum Record {
     Frame(Frame),
     Overrun,
     BusOff,
-}
-
-/// Each record is given the next number, 0 after the largest; a lost one uses its number up.
-#[derive(Debug, Clone, Copy, PartialEq, Eq)]
-pub struct Record {
-    pub kind: RecordKind,
-    pub number: u32,
 }
 
 #[derive(Debug, Clone, Copy, PartialEq, Eq)]
@@ -108,7 +97,7 @@ impl ReceiveBox {
 
     /// Takes the oldest record from the queue.
     pub fn take(&mut self) -> Result<Option<Record>> {
-        self.call::<TAKE_ANSWER>(&[TAKE]).map(|answer| (answer[1] == 1).then(|| record(&answer[2..])))
+        self.call::<16>(&[TAKE]).map(|answer| (answer[1] == 1).then(|| record(&answer[2..])))
     }
 
     /// Starts a drain with the words that the interrupt found.
@@ -125,11 +114,11 @@ impl ReceiveBox {
         let answer: [u8; LONGEST_ANSWER] = self.call(&[STEP])?;
         let told = match answer[1] {
             0 => Told::Done,
-            1 => Told::Lost(record(&answer[3..])),
+            1 => Told::Lost(record(&answer[3..17])),
             _ => Told::Finished {
-                transmit_wakes: answer[WAKES],
-                error_wakes: answer[WAKES + 1],
-                enable: word(&answer, WAKES + 2),
+                transmit_wakes: answer[17],
+                error_wakes: answer[18],
+                enable: u32::from_be_bytes([answer[19], answer[20], answer[21], answer[22]]),
             },
         };
         let command = match answer[2] {
@@ -138,11 +127,6 @@ impl ReceiveBox {
             _ => Command::Release,
         };
         Ok(Step { told, command })
-    }
-
-    /// Drops the drain that runs. The record that was released and not yet offered is lost, and answered.
-    pub fn abandon(&mut self) -> Result<Option<Record>> {
-        self.call::<TAKE_ANSWER>(&[ABANDON]).map(|answer| (answer[1] == 1).then(|| record(&answer[2..])))
     }
 
     /// The box's answer to one call; it is then as the call leaves it.
@@ -176,17 +160,11 @@ fn accepted<const ANSWER: usize>(answer: [u8; ANSWER]) -> Result<[u8; ANSWER]> {
     if answer[0] == 0 { Ok(answer) } else { refuse(u32::from(answer[0]), 0) }
 }
 
-/// A kind, 13 bytes and a number.
+/// A kind and 13 bytes.
 fn record(bytes: &[u8]) -> Record {
-    let kind = match bytes[0] {
-        0 => RecordKind::Frame(Frame::from_bytes(bytes[1..=FRAME_LENGTH].try_into().expect("a record has 18 bytes"))),
-        1 => RecordKind::Overrun,
-        _ => RecordKind::BusOff,
-    };
-    Record { kind, number: word(bytes, 1 + FRAME_LENGTH) }
-}
-
-/// Four bytes, high byte first.
-fn word(bytes: &[u8], at: usize) -> u32 {
-    bytes[at..at + 4].iter().fold(0, |word, byte| word << 8 | u32::from(*byte))
+    match bytes[0] {
+        0 => Record::Frame(Frame::from_bytes(bytes[1..=FRAME_LENGTH].try_into().expect("a record has 14 bytes"))),
+        1 => Record::Overrun,
+        _ => Record::BusOff,
+    }
 }

@@ -20,17 +20,10 @@ pub enum Refusal {
     BytesAfterEnd,
     WrongLength,
     EmptyList,
-    MarkedEntry,
-    EntryOutsideForm,
-    RangeReversed,
-    NoTime,
-    TotalPasses,
-    ListFull,
-    NoFilterThere,
 }
 
 impl Refusal {
-    const ALL: [Refusal; 22] = [
+    const ALL: [Refusal; 15] = [
         Refusal::IdentifierAboveLimit,
         Refusal::InvalidDataLength,
         Refusal::NonCompliantDlc,
@@ -46,13 +39,6 @@ impl Refusal {
         Refusal::BytesAfterEnd,
         Refusal::WrongLength,
         Refusal::EmptyList,
-        Refusal::MarkedEntry,
-        Refusal::EntryOutsideForm,
-        Refusal::RangeReversed,
-        Refusal::NoTime,
-        Refusal::TotalPasses,
-        Refusal::ListFull,
-        Refusal::NoFilterThere,
     ];
 
     pub fn number(self) -> u32 {

@@ -1,13 +1,9 @@
 //! What docs/ABI.md and host/c/worked.c work out, through the wrappers.
 use chherbolat::{
-    CodeMask, ExtendedId, Filter, Format, Frame, Id, Kind, PatternByte, Patterns, ReceiveBox, Refusal, Refused, Result,
-    StandardId, WakeList,
+    CodeMask, ExtendedId, Filter, Format, Frame, Id, Kind, PatternByte, ReceiveBox, Refusal, Refused, Result, StandardId,
     decision::{self, Command, Decision, Outcome},
-    file,
-    load::{Ratio, Totals},
-    raw,
-    receive_box::{self, Arrival, Record, RecordKind, STATE_LENGTH, Step, Told, Words},
-    socketcan,
+    file, raw,
+    receive_box::{self, Arrival, Record, STATE_LENGTH, Step, Told, Words},
 };
 
 fn refused<T>(result: Result<T>) -> (u32, u64) {
@@ -41,42 +37,6 @@ fn frames_built_and_read() {
     assert!(own.is_self_reception() && !own.is_remote_request() && !own.is_extended_format());
     let long = Frame::new(ExtendedId::new(0x1234_5678).unwrap(), &[1, 2]).unwrap();
     assert_eq!((long.identifier().as_raw(), long.data_length_code(), long.data()), (0x1234_5678, 2, &[1, 2][..]));
-}
-
-#[test]
-fn wakes() {
-    let even = Filter::single_standard("xxxxxxxxxx0", "x", "xxxxxxxx", "xxxxxxxx").unwrap();
-    let both = Filter { kind: Kind::Dual, registers: [0x20, 0x00, 0x24, 0x60, 0x00, 0x1F, 0x00, 0x1F] };
-    let mut list = WakeList::default();
-    assert_eq!((list.add(&even), list.add(&both)), (Ok(1), Ok(2)));
-    assert!(list.may_wake(standard(0x124)) && list.may_wake(standard(0x123)) && !list.may_wake(standard(0x125)));
-    assert_eq!(refused(list.remove(2)), (22, 0));
-    assert_eq!(list.remove(0), Ok(1));
-    assert!(list.may_wake(standard(0x100)) && !list.may_wake(standard(0x124)));
-    assert_eq!((list.bytes()[145 + 0x123 / 8], WakeList::from_bytes(*list.bytes())), (1 << 3, list));
-    (2..=16).for_each(|count| assert_eq!(list.add(&even), Ok(count)));
-    assert_eq!(refused(list.add(&even)), (21, 0));
-    let mut bytes = *list.bytes();
-    bytes[0] = 17;
-    assert_eq!(refused(WakeList::from_bytes(bytes).remove(0)), (10, 0));
-}
-
-#[test]
-fn records() {
-    let frames = [
-        Frame::new(standard(0x123), &[0xAB, 0xCD]).unwrap(),
-        Frame::new_with_remote_length(ExtendedId::new(0x1234_5678).unwrap(), true, false, 8, &[]).unwrap(),
-    ];
-    let buffers = frames.map(|frame| *frame.bytes());
-    let mut out = [0; 2 * socketcan::RECORD_LENGTH];
-    let records = socketcan::to_records(buffers.as_flattened(), &mut out).unwrap();
-    assert_eq!(records[..10], [0, 0, 1, 0x23, 2, 0, 0, 0, 0xAB, 0xCD]);
-    assert_eq!(records[16..24], [0xD2, 0x34, 0x56, 0x78, 8, 0, 0, 0]);
-    assert_eq!(socketcan::to_buffers(records, &mut [0; 26]).unwrap(), buffers.as_flattened());
-    let own = Frame::new_self_reception(standard(0x123), &[]).unwrap();
-    assert_eq!(refused(socketcan::to_records(own.bytes(), &mut [0; 16])), (16, 0));
-    assert_eq!(refused(socketcan::to_buffers(&[0xFF; 17], &mut [0; 26])), (14, 1));
-    assert_eq!(refused(socketcan::to_buffers(&[0x5F; 16], &mut [0; 26])), (17, 0));
 }
 
 /// `data` shows where `chherbolat_data` copies from.
@@ -135,29 +95,6 @@ fn filters_from_lists() {
 }
 
 #[test]
-fn patterns_of_ranges() {
-    let patterns = Patterns::from_range(Format::Standard, 0x105, 0x10B).unwrap();
-    let expected = ["00100000101", "0010000011x", "001000010xx"];
-    assert!(patterns.iter().eq(expected));
-    assert!(Patterns::from_range(Format::Standard, 0, 0x7FF).unwrap().iter().eq(["xxxxxxxxxxx"]));
-    assert_eq!(Patterns::from_range(Format::Standard, 1, 0x7FE).unwrap().iter().len(), 20);
-    assert_eq!(Patterns::from_range(Format::Extended, 1, 0x1FFF_FFFE).unwrap().iter().len(), 56);
-    assert_eq!(refused(Patterns::from_range(Format::Standard, 0x800, 0x7FF)), (1, 0));
-    assert_eq!(refused(Patterns::from_range(Format::Extended, 2, 1)), (18, 0));
-}
-
-#[test]
-fn joins() {
-    let join = |first, second| Filter::join(Format::Standard, first, second);
-    let joined = join("0010000x000", "00100000x00").unwrap();
-    assert_eq!((joined.pattern(), joined.through), ("0010000xx00", 4));
-    assert_eq!(joined.filter.registers, [0x20, 0, 0, 0, 1, 0x9F, 0xFF, 0xFF]);
-    assert_eq!(join("00100000x00", "00100000000").unwrap().pattern(), "00100000x00");
-    assert_eq!(refused(join("0010000x000", "00100000x0")), (4, 1));
-    assert_eq!(refused(join("0010000x000", "0010000?x00")), (5, 0x01_07_3F));
-}
-
-#[test]
 fn decisions() {
     let decided = |outcome, command, in_flight| Decision { outcome, command, in_flight };
     assert_eq!(decision::receive(0x101), decided(Outcome::Overrun, Command::Nothing, false));
@@ -183,58 +120,22 @@ fn a_drain() {
     assert!(steps[..6].iter().all(|step| step.told == Told::Done));
     assert_eq!(steps[3].command, receive_box::Command::Release);
     assert_eq!(steps[6].told, Told::Finished { transmit_wakes: 1, error_wakes: 0, enable: 0xFD });
-    assert_eq!(receive_box.take(), Ok(Some(Record { kind: RecordKind::Frame(frame), number: 0 })));
+    assert_eq!(receive_box.take(), Ok(Some(Record::Frame(frame))));
     assert_eq!(receive_box.take(), Ok(None));
-}
-
-#[test]
-fn an_abandoned_drain() {
-    let frame = Frame::new(standard(0x124), &[0xAB]).unwrap();
-    let released = Record { kind: RecordKind::Frame(frame), number: 0 };
-    for steps in 0..=5 {
-        let mut receive_box = ReceiveBox::new();
-        assert_eq!(refused(receive_box.abandon()), (9, 0));
-        receive_box.arrive(&frame).unwrap();
-        receive_box.start(Words { interrupt: 1, enable: 0xFF, status: 1 }).unwrap();
-        (0..steps).for_each(|_| assert_eq!(receive_box.step().unwrap().told, Told::Done));
-        assert_eq!(receive_box.abandon(), Ok((steps == 4).then_some(released)));
-        receive_box.start(Words { interrupt: 1, enable: 0xFF, status: 1 }).unwrap();
-        while !matches!(receive_box.step().unwrap().told, Told::Finished { .. }) {}
-        assert_eq!(receive_box.take(), Ok((steps != 4).then_some(released)));
-        assert_eq!(receive_box.take(), Ok(None));
-    }
 }
 
 #[test]
 fn states() {
     let mut state = [0; STATE_LENGTH];
-    state[1476] = 32; // the queue is full
-    state[1508..].fill(0xFF); // and the next number is the largest
+    state[1348] = 32; // the queue is full
     let mut full = ReceiveBox::from_state(&state).unwrap();
     assert_eq!(full.state(), &state);
     full.start(Words { interrupt: 4, enable: 0, status: 0xC0 }).unwrap();
-    let bus_off = Record { kind: RecordKind::BusOff, number: u32::MAX };
-    let lost = Step { told: Told::Lost(bus_off), command: receive_box::Command::Abort };
+    let lost = Step { told: Told::Lost(Record::BusOff), command: receive_box::Command::Abort };
     assert_eq!(full.step(), Ok(lost));
-    assert_eq!(full.state()[1508..], [0; 4]);
     state[897] = 65;
     assert_eq!(refused(ReceiveBox::from_state(&state).unwrap().take()), (10, 0));
     assert_eq!(refused(ReceiveBox::from_state(&[0xFF; STATE_LENGTH])), (10, 0));
-}
-
-#[test]
-fn bus_load() {
-    let file = [&[0, 0, 1, 0x01, 0x24, 0x80, 0xAB][..], &[0; 9]].concat();
-    let mut totals = Totals::default();
-    totals.add(&file).unwrap();
-    totals.add(&file).unwrap();
-    assert_eq!(totals, Totals { standard: 2, extended: 0, data_bytes: 2, bits: 110, worst_bits: 130 });
-    assert_eq!(refused(totals.add(&file[..15])), (11, 3));
-    assert_eq!(totals.load(500_000, 10), Ok(Ratio { numerator: 130_000, denominator: 5_000_000 }));
-    assert_eq!(refused(totals.load(0, 10)), (19, 0));
-    assert_eq!(refused(totals.load(u64::MAX, 2)), (20, 0));
-    totals.bits = u64::MAX;
-    assert_eq!((refused(totals.add(&file)), totals.bits), ((20, 0), u64::MAX));
 }
 
 #[test]
@@ -248,9 +149,4 @@ fn files() {
     assert_eq!(file::report(written, &mut text), Ok("0 1\n1 0\naccepted 1\n"));
     assert_eq!(refused(file::report(written, &mut [0; 18])), (6, 19));
     assert_eq!(refused(file::read(&written[..37])), (11, 25));
-    let mut mended = [0; 25];
-    let changes = file::Changes { filters_dropped: 0, frames_dropped: 1, bytes_cut: 12 };
-    let whole = [&written[..10], &[0, 1], &written[12..25]].concat();
-    assert_eq!(file::salvage(&written[..37], &mut mended), Ok((&whole[..], changes)));
-    assert_eq!(refused(file::salvage(&written[..37], &mut mended[..24])), (6, 25));
 }

@@ -2,15 +2,9 @@
 use chherbolat::raw::*;
 use oracle::{
     face::{Face, files::Files, filters::Filters},
-    joins::Join,
     lists::FromList,
-    load::{Add, Load},
-    ranges::FromRange,
     receive_box,
-    records::Converts,
-    salvage::Salvage,
     script::BoxScript,
-    wakes::Functions,
 };
 
 pub const LIBRARY: Face = Face {
@@ -53,18 +47,6 @@ const FILES: Files =
     Files { read_file: chherbolat_read_file, write_file: chherbolat_write_file, report: chherbolat_report };
 
 pub const FROM_LIST: FromList = chherbolat_filter_from_list;
-pub const FROM_RANGE: FromRange = chherbolat_patterns_from_range;
-
-pub const JOIN: Join = chherbolat_filter_join;
-
-pub const WAKES: Functions =
-    Functions { add: chherbolat_wake_add, remove: chherbolat_wake_remove, may: chherbolat_wake_may };
-pub const RECORDS: Converts = Converts { to: chherbolat_to_socketcan, from: chherbolat_from_socketcan };
-
-pub const LOAD_ADD: Add = chherbolat_load_add;
-pub const LOAD: Load = chherbolat_load;
-
-pub const SALVAGE: Salvage = chherbolat_salvage;
 
 pub const BOX: (&str, BoxScript) = ("ours", chherbolat_box_script);
 pub const MODEL: (&str, BoxScript) = ("the host's model", receive_box::box_script);

@@ -1,8 +1,7 @@
 //! Drains of the driver: its `handle_interrupt` on mock registers, with frames that arrive and records that are taken
 //! before any of its accesses. What it does becomes the calls on a box that come to the same, and their answers: a step
 //! for each look, miss read, copy, release and offer, one for a notice and one for the finish. Now and then the state
-//! is asked for: the next step, the FIFO, the queue, the held record and the next number. The driver's records have no
-//! numbers: they get them by the rule.
+//! is asked for: the next step, the FIFO and the queue.
 use std::{cell::RefCell, collections::VecDeque, rc::Rc};
 
 use original::twai::{
@@ -13,10 +12,9 @@ use trace::Event;
 
 use crate::{
     face::FRAME_LENGTH,
-    numbers,
     random::Random,
     receive_box::{FIFO_ENTRIES, QUEUE_PLACES, arrive},
-    script::{Arrival, Call, Command, Content, Frame, Next, Record, Reply, Seen, Told, Words},
+    script::{Arrival, Call, Command, Frame, Next, Record, Reply, Seen, Told, Words},
 };
 
 const RECEIVE_ONLY: Words = Words { interrupt: 1, enable: u32::MAX, status: 0 };
@@ -83,9 +81,6 @@ impl Course {
             replies: Vec::new(),
             counts: Counts::default(),
         };
-        if let Some(next_number) = numbers::first(seed) {
-            course.push(Call::Load(next_number), Reply::Loaded);
-        }
         let drains = 1 + course.below(12);
         for _ in 0..drains {
             let (arrivals, takes) = (course.some([1, 4, 20, 90]), course.some([1, 1, 4, 40]));
@@ -98,7 +93,6 @@ impl Course {
             course.drain(words, one_call_in)?;
         }
         course.empty()?;
-        numbers::give(&course.calls, &mut course.replies)?;
         Ok(course)
     }
 
@@ -198,8 +192,6 @@ impl Board {
                 next: Next::Idle,
                 fifo: self.registers.fifo.borrow().iter().copied().collect(),
                 queue: self.state.rx_queue.waiting().into_iter().map(record).collect(),
-                held: Record::BLANK,
-                next_number: 0,
             })),
             _ => Reply::Taken(self.state.rx_queue.try_receive().map(record)),
         }
@@ -303,15 +295,13 @@ impl Reading {
     }
 }
 
-/// Unnumbered, as the driver has it.
 fn record(received: Result<EspTwaiFrame, EspTwaiError>) -> Record {
-    let content = match received {
-        Ok(frame) => Content::Frame(*probe::bytes(&frame)),
-        Err(EspTwaiError::EmbeddedHAL(ErrorKind::Overrun)) => Content::Overrun,
-        Err(EspTwaiError::BusOff) => Content::BusOff,
+    match received {
+        Ok(frame) => Record::Frame(*probe::bytes(&frame)),
+        Err(EspTwaiError::EmbeddedHAL(ErrorKind::Overrun)) => Record::Overrun,
+        Err(EspTwaiError::BusOff) => Record::BusOff,
         Err(other) => panic!("not an error of a drain: {other:?}"),
-    };
-    Record { content, number: 0 }
+    }
 }
 
 /// Any word, or one that has receive and the named bits with about even chances; the status half the time bus-off.

@@ -19,8 +19,8 @@ pub const EMPTY_LIST: u32 = 15;
 pub type FromList = unsafe extern "C" fn(bool, *const u32, usize, *mut u8, usize, *mut u8, usize) -> Answer;
 
 /// What every lent byte holds before a call, and how many are lent in all.
-pub(crate) const FILL: u8 = 0xA5;
-pub(crate) const LENT_LENGTH: usize = 64;
+const FILL: u8 = 0xA5;
+const LENT_LENGTH: usize = 64;
 
 #[derive(Debug, Clone)]
 pub struct Case {
@@ -48,11 +48,11 @@ impl Counts {
     }
 }
 
-pub(crate) fn width(extended: bool) -> usize {
+fn width(extended: bool) -> usize {
     if extended { 29 } else { 11 }
 }
 
-pub(crate) fn limit(extended: bool) -> u32 {
+fn limit(extended: bool) -> u32 {
     if extended { 0x1FFF_FFFF } else { 0x7FF }
 }
 
@@ -90,24 +90,20 @@ impl Case {
         (self.pattern_room < needed).then(|| Answer::refuses(OUTPUT_TOO_SHORT, needed as u64))
     }
 
+    /// What the request says of each position, from the highest on.
     fn pattern(&self) -> Vec<u8> {
-        pattern_of(&self.list, self.extended)
+        let character = |position: usize| {
+            let ones = self.list.iter().filter(|entry| *entry >> position & 1 == 1).count();
+            if ones == 0 {
+                b'0'
+            } else if ones == self.list.len() {
+                b'1'
+            } else {
+                b'x'
+            }
+        };
+        (0..width(self.extended)).rev().map(character).collect()
     }
-}
-
-/// What the request says of each position of a list, from the highest on.
-pub(crate) fn pattern_of(list: &[u32], extended: bool) -> Vec<u8> {
-    let character = |position: usize| {
-        let ones = list.iter().filter(|entry| *entry >> position & 1 == 1).count();
-        if ones == 0 {
-            b'0'
-        } else if ones == list.len() {
-            b'1'
-        } else {
-            b'x'
-        }
-    };
-    (0..width(extended)).rev().map(character).collect()
 }
 
 fn spoil(list: &mut [u32], extended: bool, random: &mut Random) {
@@ -120,7 +116,7 @@ fn spoil(list: &mut [u32], extended: bool, random: &mut Random) {
 }
 
 /// Each standard identifier as a filter sees it, with some RTR and payload.
-pub struct Views(pub(crate) Vec<View>);
+pub struct Views(Vec<View>);
 
 impl Views {
     pub fn random(random: &mut Random) -> Self {
@@ -129,7 +125,7 @@ impl Views {
 }
 
 /// A frame with this identifier and some RTR, length and payload.
-pub(crate) fn frame(extended: bool, id: u32, random: &mut Random) -> [u8; 13] {
+fn frame(extended: bool, id: u32, random: &mut Random) -> [u8; 13] {
     let mut frame = [0; 13];
     frame.copy_from_slice(&random.bytes(13));
     frame[0] = u8::from(extended) << 7 | random.word() as u8 & 0x4F;
@@ -184,15 +180,15 @@ pub fn check(
     Ok(Counts { accepted: 1, refused: 0, identifiers_tried, patterns_tried })
 }
 
-pub(crate) fn same<T: std::fmt::Debug + PartialEq + ?Sized>(what: &str, got: &T, due: &T) -> Result<(), String> {
+fn same<T: std::fmt::Debug + PartialEq + ?Sized>(what: &str, got: &T, due: &T) -> Result<(), String> {
     right(got == due, || format!("{what} is {got:x?}, and should be {due:x?}"))
 }
 
-pub(crate) fn right(holds: bool, wrong: impl FnOnce() -> String) -> Result<(), String> {
+fn right(holds: bool, wrong: impl FnOnce() -> String) -> Result<(), String> {
     if holds { Ok(()) } else { Err(wrong()) }
 }
 
-pub(crate) fn fits(pattern: &[u8], id: u32) -> bool {
+fn fits(pattern: &[u8], id: u32) -> bool {
     let bit = |place: usize| b'0' + (id >> (pattern.len() - 1 - place) & 1) as u8;
     pattern.iter().enumerate().all(|(place, character)| *character == b'x' || *character == bit(place))
 }

@@ -1,49 +1,42 @@
 //! Calls in any order on a fresh box, and what its answers must come to, whatever the box: every arrival that was
 //! recorded ends in one place, told by its position; refusals come in their cases and no others; takes answer in the
-//! order of the queue; each drain does what it owes, or its beginning where it is abandoned; an abandonment names what was
-//! released and not offered, and nothing else; and the records are numbered as they are released or noticed.
+//! order of the queue; and each drain does what it owes.
 use std::collections::VecDeque;
 
 use original::twai::probe::Entry;
 
 use crate::{
     course::random_frame,
-    numbers,
     random::Random,
     receive_box::{self, FIFO_ENTRIES, QUEUE_PLACES},
-    script::{Arrival, Call, Command, Content, Frame, Next, Record, Reply, Seen, Told, Words},
+    script::{Arrival, Call, Command, Frame, Record, Reply, Told, Words},
 };
 
 const DRAIN_RUNS: u8 = 8;
 const NO_DRAIN_RUNS: u8 = 9;
 
-/// How often arrivals, takes, starts, steps and abandonments come in a stretch of calls.
-const STRETCHES: [[u64; 5]; 6] =
-    [[1, 1, 1, 1, 1], [20, 1, 1, 1, 0], [1, 20, 1, 1, 0], [10, 0, 1, 20, 0], [4, 1, 2, 30, 1], [3, 3, 4, 20, 2]];
+/// How often arrivals, takes, starts and steps come in a stretch of calls.
+const STRETCHES: [[u64; 4]; 6] =
+    [[1, 1, 1, 1], [20, 1, 1, 1], [1, 20, 1, 1], [10, 0, 1, 20], [4, 1, 1, 30], [3, 3, 1, 20]];
 const LONGEST_STRETCH: u64 = 400;
-const CALLS_TO_A_STATE: u64 = 25;
 
-/// At least as many calls as asked for, any of them at any time, and then what empties the box. Some begin with a load.
+/// At least as many calls as asked for, any of them at any time, and then what empties the box.
 pub fn random_calls(count: u64, seed: u64) -> Vec<Call> {
     let random = &mut Random::from_seed(seed);
-    let mut calls = Vec::from_iter(numbers::first(seed).map(Call::Load));
+    let mut calls = Vec::new();
     let mut arrivals = 0;
     while (calls.len() as u64) < count {
         let stretch = STRETCHES[random.below(STRETCHES.len() as u64) as usize];
         for _ in 0..random.below(LONGEST_STRETCH) {
-            match drawn(stretch, random) {
+            calls.push(match drawn(stretch, random) {
                 0 => {
                     arrivals += 1;
-                    calls.push(Call::Arrival(unique(random_frame(random), arrivals)));
+                    Call::Arrival(unique(random_frame(random), arrivals))
                 }
-                1 => calls.push(Call::Take),
-                2 => calls.push(Call::Start(random_words(random))),
-                3 => calls.push(Call::Step),
-                _ => calls.extend([Call::State, Call::Abandon, Call::State]),
-            }
-            if random.one_in(CALLS_TO_A_STATE) {
-                calls.push(Call::State);
-            }
+                1 => Call::Take,
+                2 => Call::Start(random_words(random)),
+                _ => Call::Step,
+            });
         }
     }
     empty(&mut calls);
@@ -51,7 +44,7 @@ pub fn random_calls(count: u64, seed: u64) -> Vec<Call> {
 }
 
 /// A place, as often as the number there says.
-fn drawn(often: [u64; 5], random: &mut Random) -> usize {
+fn drawn(often: [u64; 4], random: &mut Random) -> usize {
     let mut left = random.below(often.iter().sum());
     let drawn = |times: &u64| {
         let here = left < *times;
@@ -95,12 +88,6 @@ pub struct Counts {
     pub drains: u64,
     pub refused_start: u64,
     pub refused_step: u64,
-    pub states: u64,
-    /// Takes whose number is not the one after that of the take before.
-    pub gaps: u64,
-    /// By the next step, as the state told it.
-    pub abandoned: [u64; Next::Finish as usize + 1],
-    pub refused_abandonment: u64,
 }
 
 impl Counts {
@@ -114,10 +101,6 @@ impl Counts {
         self.drains += other.drains;
         self.refused_start += other.refused_start;
         self.refused_step += other.refused_step;
-        self.states += other.states;
-        self.gaps += other.gaps;
-        self.abandoned.iter_mut().zip(other.abandoned).for_each(|(sum, more)| *sum += more);
-        self.refused_abandonment += other.refused_abandonment;
     }
 }
 
@@ -127,13 +110,10 @@ struct Ledger {
     /// Recorded and not released.
     fifo: VecDeque<Entry>,
     /// Released, and its offer is the next step.
-    released: Option<Record>,
+    released: Option<Entry>,
     /// Offered, not lost and not taken.
     queue: VecDeque<Record>,
     drain: Option<Drain>,
-    next_number: u32,
-    /// As the last state told it.
-    next_step: Option<Next>,
     counts: Counts,
 }
 
@@ -147,7 +127,6 @@ struct Drain {
 
 /// Follows the answers; an error where one can't be.
 pub fn check(calls: &[Call], replies: &[Reply]) -> Result<Counts, String> {
-    let gaps = numbers::read(calls, replies)?;
     let mut ledger = Ledger::default();
     for (place, (call, reply)) in calls.iter().zip(replies).enumerate() {
         ledger.follow(*call, reply).map_err(|why| format!("call {place}, {call:02x?}: {reply:02x?}: {why}"))?;
@@ -155,7 +134,7 @@ pub fn check(calls: &[Call], replies: &[Reply]) -> Result<Counts, String> {
     if !(ledger.fifo.is_empty() && ledger.released.is_none() && ledger.queue.is_empty() && ledger.drain.is_none()) {
         return Err("the box is not empty at the end".to_string());
     }
-    Ok(Counts { gaps, ..ledger.counts })
+    Ok(ledger.counts)
 }
 
 fn demand(holds: bool, otherwise: &str) -> Result<(), String> {
@@ -178,16 +157,6 @@ impl Ledger {
                 demand(self.drain.is_none(), "a drain runs")
             }
             (Call::Step, Reply::Stepped(command, told)) => self.stepped(command, told),
-            (Call::Load(next_number), Reply::Loaded) => {
-                self.next_number = next_number;
-                demand(self.counts.calls == 1, "not at the start")
-            }
-            (Call::State, Reply::State(seen)) => self.seen(&seen),
-            (Call::Abandon, Reply::Refused(NO_DRAIN_RUNS)) => {
-                self.counts.refused_abandonment += 1;
-                demand(self.drain.is_none(), "a drain runs")
-            }
-            (Call::Abandon, Reply::Abandoned(lost)) => self.abandoned(lost),
             _ => Err("no answer to this call".to_string()),
         }
     }
@@ -216,9 +185,9 @@ impl Ledger {
     fn stepped(&mut self, command: Command, told: Told) -> Result<(), String> {
         let Some(mut drain) = self.drain.take() else { return Err("no drain runs".to_string()) };
         let was_empty = self.fifo.is_empty();
-        if let Some(record) = self.released.take() {
+        if let Some(entry) = self.released.take() {
             demand(command == Command::Nothing, "a command at an offer")?;
-            self.offered(record, told)?;
+            self.offered(receive_box::record_of(entry), told)?;
             drain.move_lost = told != Told::Done;
         } else if let Told::Finished { .. } = told {
             demand(command == Command::Nothing, "a command at the finish")?;
@@ -230,47 +199,18 @@ impl Ledger {
                     demand(drain.words.notice_due() && !drain.noticed, "no notice is due")?;
                     drain.noticed = true;
                     self.counts.notices += 1;
-                    let notice = self.numbered(Content::BusOff);
-                    self.offered(notice, told)?;
+                    self.offered(Record::BusOff, told)?;
                 }
                 Command::Release => {
                     demand(drain.words.receive_due() && !drain.move_lost, "no move is due")?;
                     demand(drain.noticed == drain.words.notice_due(), "a move before the notice")?;
-                    let front = self.fifo.pop_front();
-                    self.released = front.map(|entry| self.numbered(receive_box::content_of(entry)));
+                    self.released = self.fifo.pop_front();
                     demand(told == Told::Done && self.released.is_some(), "nothing to release")?;
                 }
             }
         }
         self.drain = Some(Drain { was_empty, ..drain });
         Ok(())
-    }
-
-    fn numbered(&mut self, content: Content) -> Record {
-        let number = self.next_number;
-        self.next_number = number.wrapping_add(1);
-        Record { content, number }
-    }
-
-    /// What is held has the number 0 up to its release, and nothing is held before the copy and after the offer.
-    fn seen(&mut self, seen: &Seen) -> Result<(), String> {
-        self.counts.states += 1;
-        self.next_step = Some(seen.next);
-        demand(seen.fifo == Vec::from(self.fifo.clone()), "another FIFO")?;
-        demand(seen.queue == Vec::from(self.queue.clone()), "another queue")?;
-        demand(seen.next_number == self.next_number, "another next number")?;
-        demand((seen.next == Next::Idle) == self.drain.is_none(), "idle in a drain, or busy without one")?;
-        demand((seen.next == Next::Offer) == self.released.is_some(), "an offer without a release before it, or none")?;
-        let copied = self.fifo.front().filter(|_| seen.next == Next::Release);
-        let copied = copied.map(|entry| Record { content: receive_box::content_of(*entry), number: 0 });
-        demand(seen.held == self.released.or(copied).unwrap_or(Record::BLANK), "another record in the hand")
-    }
-
-    fn abandoned(&mut self, lost: Option<Record>) -> Result<(), String> {
-        let next_step = self.next_step.ok_or("no state was told before it")?;
-        self.counts.abandoned[next_step as usize] += 1;
-        demand(self.drain.take().is_some(), "no drain runs")?;
-        demand(lost == self.released.take(), "not the record that was released and not offered")
     }
 
     /// Stored last, or lost by a full queue and only by that.

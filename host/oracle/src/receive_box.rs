@@ -5,7 +5,7 @@ use original::twai::probe::{self, Entry};
 
 use crate::{
     answer::{Answer, OUTPUT_TOO_SHORT},
-    script::{self, Arrival, Call, Command, Content, Frame, Record, Reply, Seen, Told, Words},
+    script::{self, Arrival, Call, Command, Frame, Record, Reply, Seen, Told, Words},
 };
 
 pub const FIFO_ENTRIES: usize = 64;
@@ -20,7 +20,6 @@ pub struct ReceiveBox {
     fifo: VecDeque<Entry>,
     queue: VecDeque<Record>,
     drain: Option<Drain>,
-    next_number: u32,
 }
 
 struct Drain {
@@ -34,7 +33,7 @@ enum Next {
     Look,
     Miss,
     Copy,
-    Release(Content),
+    Release(Record),
     Offer(Record),
     Finish,
 }
@@ -85,10 +84,10 @@ pub fn weight(entry: &Entry) -> usize {
     }
 }
 
-pub fn content_of(entry: Entry) -> Content {
+pub fn record_of(entry: Entry) -> Record {
     match entry {
-        Entry::Whole(frame) => Content::Frame(frame),
-        Entry::OverrunMark => Content::Overrun,
+        Entry::Whole(frame) => Record::Frame(frame),
+        Entry::OverrunMark => Record::Overrun,
     }
 }
 
@@ -97,10 +96,6 @@ impl ReceiveBox {
         match (call, &mut self.drain) {
             (Call::Arrival(frame), _) => Reply::Arrived(arrive(&mut self.fifo, frame)),
             (Call::Take, _) => Reply::Taken(self.queue.pop_front()),
-            (Call::Load(next_number), _) => {
-                *self = ReceiveBox { next_number, ..ReceiveBox::default() };
-                Reply::Loaded
-            }
             (Call::State, _) => Reply::State(Box::new(self.seen())),
             (Call::Start(_), Some(_)) => Reply::Refused(DRAIN_RUNS),
             (Call::Start(words), None) => {
@@ -108,44 +103,40 @@ impl ReceiveBox {
                 self.drain = Some(Drain { words, next });
                 Reply::Started
             }
-            (Call::Step | Call::Abandon, None) => Reply::Refused(NO_DRAIN_RUNS),
+            (Call::Step, None) => Reply::Refused(NO_DRAIN_RUNS),
             (Call::Step, Some(Drain { words, next })) => {
                 let (words, now) = (*words, *next);
                 self.step(words, now)
             }
-            (Call::Abandon, Some(_)) => Reply::Abandoned(self.abandon()),
         }
     }
 
     fn seen(&self) -> Seen {
-        let (next, held) = match self.drain.as_ref().map(|drain| drain.next) {
-            None => (script::Next::Idle, Record::BLANK),
-            Some(Next::Notice) => (script::Next::Notice, Record::BLANK),
-            Some(Next::Look) => (script::Next::Look, Record::BLANK),
-            Some(Next::Miss) => (script::Next::Miss, Record::BLANK),
-            Some(Next::Copy) => (script::Next::Copy, Record::BLANK),
-            Some(Next::Release(content)) => (script::Next::Release, Record { content, number: 0 }),
-            Some(Next::Offer(held)) => (script::Next::Offer, held),
-            Some(Next::Finish) => (script::Next::Finish, Record::BLANK),
+        let next = match self.drain.as_ref().map(|drain| drain.next) {
+            None => script::Next::Idle,
+            Some(Next::Notice) => script::Next::Notice,
+            Some(Next::Look) => script::Next::Look,
+            Some(Next::Miss) => script::Next::Miss,
+            Some(Next::Copy) => script::Next::Copy,
+            Some(Next::Release(_)) => script::Next::Release,
+            Some(Next::Offer(_)) => script::Next::Offer,
+            Some(Next::Finish) => script::Next::Finish,
         };
-        let (fifo, queue) = (self.fifo.iter().copied().collect(), self.queue.iter().copied().collect());
-        Seen { next, fifo, queue, held, next_number: self.next_number }
+        Seen { next, fifo: self.fifo.iter().copied().collect(), queue: self.queue.iter().copied().collect() }
     }
 
     fn step(&mut self, words: Words, now: Next) -> Reply {
         let (reply, next) = match now {
             Next::Notice => {
-                let notice = self.numbered(Content::BusOff);
-                let told = self.offer(notice);
+                let told = self.offer(Record::BusOff);
                 (Reply::Stepped(Command::Abort, told), after_notice(&words))
             }
             Next::Look => (quiet(), if self.fifo.is_empty() { Next::Finish } else { Next::Miss }),
-            Next::Miss if self.fifo[0] == Entry::OverrunMark => (quiet(), Next::Release(Content::Overrun)),
+            Next::Miss if self.fifo[0] == Entry::OverrunMark => (quiet(), Next::Release(Record::Overrun)),
             Next::Miss => (quiet(), Next::Copy),
-            Next::Copy => (quiet(), Next::Release(content_of(self.fifo[0]))),
-            Next::Release(content) => {
+            Next::Copy => (quiet(), Next::Release(record_of(self.fifo[0]))),
+            Next::Release(held) => {
                 self.fifo.pop_front();
-                let held = self.numbered(content);
                 (Reply::Stepped(Command::Release, Told::Done), Next::Offer(held))
             }
             Next::Offer(held) => {
@@ -159,21 +150,6 @@ impl ReceiveBox {
         };
         self.drain = Some(Drain { words, next });
         reply
-    }
-
-    /// What was released and not offered is lost.
-    fn abandon(&mut self) -> Option<Record> {
-        match self.drain.take()?.next {
-            Next::Offer(held) => Some(held),
-            _ => None,
-        }
-    }
-
-    /// With the next number; 0 comes after the largest.
-    fn numbered(&mut self, content: Content) -> Record {
-        let number = self.next_number;
-        self.next_number = number.wrapping_add(1);
-        Record { content, number }
     }
 
     fn offer(&mut self, record: Record) -> Told {

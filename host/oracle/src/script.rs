@@ -19,10 +19,7 @@ pub enum Call {
     Take,
     Start(Words),
     Step,
-    /// Of a box that is fresh but for its next number.
-    Load(u32),
     State,
-    Abandon,
 }
 
 #[derive(Debug, Clone, Copy, PartialEq, Eq)]
@@ -33,13 +30,7 @@ pub struct Words {
 }
 
 #[derive(Debug, Clone, Copy, PartialEq, Eq)]
-pub struct Record {
-    pub content: Content,
-    pub number: u32,
-}
-
-#[derive(Debug, Clone, Copy, PartialEq, Eq)]
-pub enum Content {
+pub enum Record {
     Frame(Frame),
     Overrun,
     BusOff,
@@ -72,9 +63,6 @@ pub struct Seen {
     pub next: Next,
     pub fifo: Vec<Entry>,
     pub queue: Vec<Record>,
-    /// Blank where none is held.
-    pub held: Record,
-    pub next_number: u32,
 }
 
 /// The next step of a drain, or that none runs.
@@ -97,10 +85,7 @@ pub enum Reply {
     Taken(Option<Record>),
     Started,
     Stepped(Command, Told),
-    Loaded,
     State(Box<Seen>),
-    /// With the record that is lost by it.
-    Abandoned(Option<Record>),
 }
 
 impl Call {
@@ -116,12 +101,7 @@ impl Call {
                 script.extend([interrupt, enable, status].into_iter().flat_map(u32::to_be_bytes));
             }
             Call::Step => script.push(4),
-            Call::Load(next_number) => {
-                script.push(5);
-                script.extend(Seen::fresh(next_number).bytes());
-            }
             Call::State => script.push(6),
-            Call::Abandon => script.push(7),
         }
     }
 
@@ -132,18 +112,12 @@ impl Call {
             1 => rest.split_first_chunk().map(|(frame, rest)| (Call::Arrival(*frame), rest))?,
             2 => (Call::Take, rest),
             3 => {
-                let (words, rest) = rest.split_at_checked(12)?;
-                let (interrupt, enable, status) = (word_at(words, 0), word_at(words, 4), word_at(words, 8));
-                (Call::Start(Words { interrupt, enable, status }), rest)
+                let (words, rest) = rest.split_first_chunk::<12>()?;
+                let word = |place: usize| u32::from_be_bytes(std::array::from_fn(|byte| words[4 * place + byte]));
+                (Call::Start(Words { interrupt: word(0), enable: word(1), status: word(2) }), rest)
             }
             4 => (Call::Step, rest),
-            5 => {
-                let (state, rest) = rest.split_at_checked(STATE_LENGTH)?;
-                let next_number = word_at(state, NUMBER);
-                (state == Seen::fresh(next_number).bytes()).then_some((Call::Load(next_number), rest))?
-            }
             6 => (Call::State, rest),
-            7 => (Call::Abandon, rest),
             _ => return None,
         };
         *script = rest;
@@ -153,85 +127,61 @@ impl Call {
     fn answer_length(self) -> usize {
         match self {
             Call::Arrival(_) => 2,
-            Call::Take | Call::Abandon => 2 + RECORD_LENGTH,
-            Call::Start(_) | Call::Load(_) => 1,
-            Call::Step => STEP_ENABLE + 4,
+            Call::Take => 16,
+            Call::Start(_) => 1,
+            Call::Step => 23,
             Call::State => STATE_LENGTH,
         }
     }
 }
 
-fn word_at(bytes: &[u8], place: usize) -> u32 {
-    u32::from_be_bytes(std::array::from_fn(|byte| bytes[place + byte]))
-}
-
-/// Of an entry, or of a record without its number.
-const ENTRY_LENGTH: usize = 1 + FRAME_LENGTH;
-const RECORD_LENGTH: usize = ENTRY_LENGTH + 4;
-
 impl Record {
-    pub const BLANK: Self = Record { content: Content::Frame([0; FRAME_LENGTH]), number: 0 };
-
-    fn bytes(self) -> [u8; RECORD_LENGTH] {
-        let mut bytes = [0; RECORD_LENGTH];
-        match self.content {
-            Content::Frame(frame) => bytes[1..ENTRY_LENGTH].copy_from_slice(&frame),
-            Content::Overrun => bytes[0] = 1,
-            Content::BusOff => bytes[0] = 2,
+    fn bytes(self) -> [u8; 1 + FRAME_LENGTH] {
+        let mut bytes = [0; 1 + FRAME_LENGTH];
+        match self {
+            Record::Frame(frame) => bytes[1..].copy_from_slice(&frame),
+            Record::Overrun => bytes[0] = 1,
+            Record::BusOff => bytes[0] = 2,
         }
-        bytes[ENTRY_LENGTH..].copy_from_slice(&self.number.to_be_bytes());
         bytes
     }
 
     fn read(bytes: &[u8]) -> Option<Self> {
-        let content = match bytes[0] {
-            0 => bytes[1..ENTRY_LENGTH].try_into().ok().map(Content::Frame)?,
-            1 => Content::Overrun,
-            2 => Content::BusOff,
-            _ => return None,
-        };
-        Some(Record { content, number: word_at(bytes, ENTRY_LENGTH) })
+        match bytes[0] {
+            0 => bytes[1..].try_into().ok().map(Record::Frame),
+            1 => Some(Record::Overrun),
+            2 => Some(Record::BusOff),
+            _ => None,
+        }
     }
 }
 
-/// Where the parts of a step's answer stand.
-const STEP_LOST: usize = 3;
-const STEP_WAKES: usize = STEP_LOST + RECORD_LENGTH;
-const STEP_ENABLE: usize = STEP_WAKES + 2;
-
-/// Where the parts of a state stand: each ring's head and count behind it, the FIFO's weight, the next step, the held
-/// record; three words follow, and the next number.
-const FIFO_HEAD: usize = FIFO_ENTRIES * ENTRY_LENGTH;
+/// Where the parts of a state stand: entries and records of so many bytes, each ring's head and count behind it, the
+/// FIFO's weight, the next step; the held record and the words follow.
+const PLACE_LENGTH: usize = 1 + FRAME_LENGTH;
+const FIFO_HEAD: usize = FIFO_ENTRIES * PLACE_LENGTH;
 const QUEUE: usize = FIFO_HEAD + 3;
-const QUEUE_HEAD: usize = QUEUE + QUEUE_PLACES * RECORD_LENGTH;
+const QUEUE_HEAD: usize = QUEUE + QUEUE_PLACES * PLACE_LENGTH;
 const NEXT: usize = QUEUE_HEAD + 2;
-const HELD: usize = NEXT + 1;
-const NUMBER: usize = HELD + RECORD_LENGTH + 12;
-const STATE_LENGTH: usize = NUMBER + 4;
+const STATE_LENGTH: usize = NEXT + 1 + PLACE_LENGTH + 12;
 
 impl Seen {
-    fn fresh(next_number: u32) -> Self {
-        Seen { next: Next::Idle, fifo: Vec::new(), queue: Vec::new(), held: Record::BLANK, next_number }
-    }
-
     /// With the rings from their first places on, and zeros for what is not seen.
     fn bytes(&self) -> Vec<u8> {
         let mut bytes = vec![0; STATE_LENGTH];
-        for (place, entry) in bytes.chunks_mut(ENTRY_LENGTH).zip(&self.fifo) {
+        for (place, entry) in bytes.chunks_mut(PLACE_LENGTH).zip(&self.fifo) {
             match entry {
                 Entry::Whole(frame) => place[1..].copy_from_slice(frame),
                 Entry::OverrunMark => place[0] = 1,
             }
         }
-        for (place, record) in bytes[QUEUE..].chunks_mut(RECORD_LENGTH).zip(&self.queue) {
+        for (place, record) in bytes[QUEUE..].chunks_mut(PLACE_LENGTH).zip(&self.queue) {
             place.copy_from_slice(&record.bytes());
         }
         bytes[FIFO_HEAD + 1] = self.fifo.len() as u8;
         bytes[FIFO_HEAD + 2] = self.fifo.iter().map(weight).sum::<usize>() as u8;
         bytes[QUEUE_HEAD + 1] = self.queue.len() as u8;
         bytes[NEXT] = self.next as u8;
-        bytes[HELD..][..RECORD_LENGTH].copy_from_slice(&self.held.bytes());
-        bytes[NUMBER..].copy_from_slice(&self.next_number.to_be_bytes());
         bytes
     }
 
@@ -240,20 +190,19 @@ impl Seen {
             0 => place[1..].try_into().ok().map(Entry::Whole),
             _ => Some(Entry::OverrunMark),
         };
-        let fifo = ring(&bytes[..QUEUE], ENTRY_LENGTH, FIFO_ENTRIES).map(entry).collect::<Option<Vec<_>>>()?;
-        let queue = ring(&bytes[QUEUE..NEXT], RECORD_LENGTH, QUEUE_PLACES).map(Record::read).collect::<Option<_>>()?;
+        let fifo = ring(&bytes[..QUEUE], FIFO_ENTRIES).map(entry).collect::<Option<Vec<_>>>()?;
+        let queue = ring(&bytes[QUEUE..NEXT], QUEUE_PLACES).map(Record::read).collect::<Option<_>>()?;
         let steps = [Next::Idle, Next::Notice, Next::Look, Next::Miss, Next::Copy, Next::Release, Next::Offer];
         let next = *steps.get(usize::from(bytes[NEXT])).unwrap_or(&Next::Finish);
         let weighed = usize::from(bytes[FIFO_HEAD + 2]) == fifo.iter().map(weight).sum();
-        let (held, next_number) = (Record::read(&bytes[HELD..])?, word_at(bytes, NUMBER));
-        weighed.then_some(Seen { next, fifo, queue, held, next_number })
+        weighed.then_some(Seen { next, fifo, queue })
     }
 }
 
-/// The places in use of a ring that has so many of that length, in order; its head and count stand behind it.
-fn ring(bytes: &[u8], length: usize, places: usize) -> impl Iterator<Item = &[u8]> {
-    let (head, count) = (usize::from(bytes[places * length]), usize::from(bytes[places * length + 1]));
-    (head..head + count).map(move |place| &bytes[place % places * length..][..length])
+/// The places in use of a ring that has so many, in order; its head and count stand behind it.
+fn ring(bytes: &[u8], places: usize) -> impl Iterator<Item = &[u8]> {
+    let (head, count) = (usize::from(bytes[places * PLACE_LENGTH]), usize::from(bytes[places * PLACE_LENGTH + 1]));
+    (head..head + count).map(move |place| &bytes[place % places * PLACE_LENGTH..][..PLACE_LENGTH])
 }
 
 impl Reply {
@@ -263,8 +212,8 @@ impl Reply {
         match *self {
             Reply::Refused(number) => bytes[0] = number,
             Reply::Arrived(arrival) => bytes.push(arrival as u8),
-            Reply::Taken(None) | Reply::Abandoned(None) | Reply::Started | Reply::Loaded => {}
-            Reply::Taken(Some(record)) | Reply::Abandoned(Some(record)) => {
+            Reply::Taken(None) | Reply::Started => {}
+            Reply::Taken(Some(record)) => {
                 bytes.push(1);
                 bytes.extend(record.bytes());
             }
@@ -275,7 +224,7 @@ impl Reply {
             }
             Reply::Stepped(command, Told::Finished { transmit_wakes, error_wakes, enable }) => {
                 bytes.extend([2, command as u8]);
-                bytes.extend([0; RECORD_LENGTH]);
+                bytes.extend([0; 1 + FRAME_LENGTH]);
                 bytes.extend([transmit_wakes, error_wakes]);
                 bytes.extend(enable.to_be_bytes());
             }
@@ -300,9 +249,6 @@ impl Reply {
             (Call::Take, _) if bytes[1] == 0 => Reply::Taken(None),
             (Call::Take, _) => Reply::Taken(Some(Record::read(&bytes[2..])?)),
             (Call::Start(_), _) => Reply::Started,
-            (Call::Load(_), _) => Reply::Loaded,
-            (Call::Abandon, _) if bytes[1] == 0 => Reply::Abandoned(None),
-            (Call::Abandon, _) => Reply::Abandoned(Some(Record::read(&bytes[2..])?)),
             (Call::Step | Call::State, _) => Reply::Stepped(
                 match bytes[2] {
                     0 => Command::Nothing,
@@ -311,11 +257,11 @@ impl Reply {
                 },
                 match bytes[1] {
                     0 => Told::Done,
-                    1 => Told::Lost(Record::read(&bytes[STEP_LOST..])?),
+                    1 => Told::Lost(Record::read(&bytes[3..17])?),
                     _ => Told::Finished {
-                        transmit_wakes: bytes[STEP_WAKES],
-                        error_wakes: bytes[STEP_WAKES + 1],
-                        enable: word_at(bytes, STEP_ENABLE),
+                        transmit_wakes: bytes[17],
+                        error_wakes: bytes[18],
+                        enable: u32::from_be_bytes(bytes[19..].try_into().ok()?),
                     },
                 },
             ),

@@ -5,7 +5,7 @@ pub const MOST_FILTERS: usize = 16;
 pub const MOST_FRAMES: usize = 4096;
 
 pub const FILTER_LENGTH: usize = 9;
-pub const FRAME_LENGTH: usize = 13;
+const FRAME_LENGTH: usize = 13;
 
 pub type Frame = [u8; FRAME_LENGTH];
 

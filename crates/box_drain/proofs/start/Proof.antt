@@ -1,5 +1,4 @@
 -- `box_drain::start` meets its contract: the box is judged, then whether a drain runs. Assumes nothing.
-use mathlib.Core.Path.{sym, ◌∙◌}
 use borrow.Author.Rules.{rules}
 use Rattle.box_drain.specs.Start.{start_of}
 use Rattle.box_drain.proofs.start.Statement.{statement}
@@ -16,12 +15,7 @@ first-phase-requires c κs = search rules
 
 returns : tie.Need-returns
 unfolding start_of
-returns c =
-    simp (
-      sym c.before.before.before.before.before.before.before.valid.ensures ∙ c.before.before.before.before.before.before.if1.true,
-      sym c.before.before.before.before.before.is-idle.ensures ∙ c.before.before.before.before.if2.true,
-      c.before.before.before.first-phase.ensures,
-    )
+returns c = search (rules, c.before.before.before.first-phase.ensures, c.before.before.before.before.if2.true, ← c.before.before.before.before.before.is-idle.ensures, c.before.before.before.before.before.before.if1.true, ← c.before.before.before.before.before.before.before.valid.ensures)
 
 returns-2 : tie.Need-returns-2
 unfolding start_of

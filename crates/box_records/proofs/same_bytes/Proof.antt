@@ -1,5 +1,10 @@
 -- `box_records::same_bytes` meets its contract: the bytes before the place are the same. Assumes nothing.
-use Rattle.std.proofs.Common.{◌≡◌, ◌-◌, ◌≤◌, length, drop, sym, ◌∙◌, arith, rules, eq-eqb, ne_eqb}
+use Prim.Native.Nat.{◌≤◌, ◌-◌}
+use mathlib.Core.Path.{◌≡◌, sym, ◌∙◌}
+use lib.ListN.{length, drop}
+use native.Mathlib.Omega.{arith}
+use borrow.Author.Rules.{rules}
+use borrow.Author.Tests.{eq-eqb, ne_eqb}
 use Rattle.box_records.specs.Same.{same_bytes}
 use Rattle.box_records.proofs.Same.{same_step, same_end}
 use Rattle.box_records.proofs.same_bytes.Statement.{statement}

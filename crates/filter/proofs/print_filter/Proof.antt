@@ -24,8 +24,11 @@ print-text-requires c κs = search rules
 enum_told : tie.Need-enum-told
 enum_told c = search rules
 
-print-unread-requires : tie.Need-print-unread-requires
-print-unread-requires c κs = search rules
+slice-aggregate-write-all : tie.Need-slice-aggregate-write-all
+slice-aggregate-write-all c = search rules
+
+write-all-requires : tie.Need-write-all-requires
+write-all-requires c κs = search rules
 
 returns : tie.Need-returns
 returns c = search rules
@@ -44,6 +47,7 @@ print-filter-spec =
     slice-aggregate-print-text
     print-text-requires
     enum_told
-    print-unread-requires
+    slice-aggregate-write-all
+    write-all-requires
     returns
     returns-2)

@@ -45,15 +45,7 @@ fn print(sequences: u64, total: Counts) {
         (total.lost, "lost"),
         (total.refused_start, "starts refused by 8"),
         (total.refused_step, "steps refused by 9"),
-        (total.states, "states seen"),
-        (total.gaps, "gaps in the numbers taken"),
     ];
     let counts = counts.map(|(count, what)| format!("{} {what}", grouped(count))).join(", ");
-    let steps =
-        ["none", "the notice", "the look", "the miss read", "the copy", "the release", "the offer", "the finish"];
-    let abandoned =
-        total.abandoned.iter().zip(steps).skip(1).map(|(count, step)| format!("{} before {step}", grouped(*count)));
-    let abandoned = abandoned.collect::<Vec<_>>().join(", ");
-    println!("abandoned: {abandoned}; {} refused by 9", grouped(total.refused_abandonment));
     println!("checked: {} calls in {} sequences: {counts}; 0 wrong", grouped(total.calls), grouped(sequences));
 }

@@ -10,16 +10,13 @@ after-notice-requires c κs = search rules
 bus-off-requires : tie.Need-bus-off-requires
 bus-off-requires c κs = search rules
 
-following-requires : tie.Need-following-requires
-following-requires c κs = search rules
-
 offer-record-requires : tie.Need-offer-record-requires
 offer-record-requires c κs = search rules
 
 returns : tie.Need-returns
 unfolding notice_step
-returns c = search (rules, c.offer-record.ensures, c.before.following.ensures, c.before.before.bus-off.ensures, c.before.before.before.after-notice.ensures)
+returns c = search (rules, c.offer-record.ensures, c.before.bus-off.ensures, c.before.before.after-notice.ensures)
 
 pub notice-step-spec : {M : Type 1} → statement M
 notice-step-spec =
-    tie.close (tie.spec after-notice-requires bus-off-requires following-requires offer-record-requires returns)
+    tie.close (tie.spec after-notice-requires bus-off-requires offer-record-requires returns)

@@ -11,9 +11,6 @@ offer-requires c κs = search rules
 enum_told : tie.Need-enum-told
 enum_told c = search rules
 
-blank-requires : tie.Need-blank-requires
-blank-requires c κs = search rules
-
 with-queue-requires : tie.Need-with-queue-requires
 with-queue-requires c κs = search rules
 
@@ -22,9 +19,6 @@ quiet-requires c κs = search rules
 
 enum-told-2 : tie.Need-enum-told-2
 enum-told-2 c = search rules
-
-blank-requires-2 : tie.Need-blank-requires-2
-blank-requires-2 c κs = search rules
 
 with-queue-requires-2 : tie.Need-with-queue-requires-2
 with-queue-requires-2 c κs = search rules
@@ -40,26 +34,11 @@ refused-requires c κs = search rules
 
 returns : tie.Need-returns
 unfolding offering
-returns c =
-    search (
-      rules,
-      c.quiet.ensures,
-      c.before.with-queue.ensures,
-      c.before.before.blank.ensures,
-      c.before.before.before.enum_told.given.1,
-      ← c.before.before.before.before.before.before.offer.ensures,
-    )
+returns c = search (rules, c.quiet.ensures, c.before.with-queue.ensures, c.before.before.enum_told.given.1, ← c.before.before.before.before.before.offer.ensures)
 
 returns-2 : tie.Need-returns-2
 unfolding offering
-returns-2 c =
-    c.told.ensures
-    ∙ simp (
-      c.before.with-queue2.ensures,
-      c.before.before.blank2.ensures,
-      ← c.before.before.before.before.before.before.offer.ensures,
-      c.before.before.before.enum-told2.given.1,
-    )
+returns-2 c = c.told.ensures ∙ simp (c.before.with-queue2.ensures, ← c.before.before.before.before.before.offer.ensures, c.before.before.enum-told2.given.1)
 
 returns-3 : tie.Need-returns-3
 unfolding offering
@@ -71,11 +50,9 @@ offer-record-spec =
     (tie.spec
     offer-requires
     enum_told
-    blank-requires
     with-queue-requires
     quiet-requires
     enum-told-2
-    blank-requires-2
     with-queue-requires-2
     told-requires
     enum-known-answer

@@ -1,5 +1,5 @@
 -- `box_records::Record::same` meets its contract: the kinds are compared, then the bytes. Assumes nothing.
-use Rattle.std.proofs.Common.{rules}
+use borrow.Author.Rules.{rules}
 use Rattle.box_records.proofs.Record.same.Statement.{statement}
 use Rattle.box_records.proofs.Record.same.Tie as tie
 

@@ -15,13 +15,9 @@ use original::twai::{EspTwaiFrame, probe};
 mod calls;
 mod decisions;
 mod filters;
-mod joins;
 mod lists;
 mod matcher;
-mod ranges;
-mod records;
 mod remote_lengths;
-mod wakes;
 
 struct Row {
     name: &'static str,
@@ -105,12 +101,7 @@ fn names() -> impl Iterator<Item = &'static str> {
     let decisions = decisions::ROWS.iter().map(|row| row.name);
     let lists = lists::ROWS.iter().map(|row| row.name);
     let remote_lengths = remote_lengths::ROWS.iter().map(|row| row.name);
-    let ranges = ranges::ROWS.iter().map(|row| row.name);
-    let joins = joins::ROWS.iter().map(|row| row.name);
-    let wakes = wakes::ROWS.iter().map(|row| row.name);
-    let records = records::ROWS.iter().map(|row| row.name);
-    let of_the_driver = frames.chain(filters).chain(matches).chain(calls).chain(decisions);
-    of_the_driver.chain(lists).chain(remote_lengths).chain(ranges).chain(joins).chain(wakes).chain(records)
+    frames.chain(filters).chain(matches).chain(calls).chain(decisions).chain(lists).chain(remote_lengths)
 }
 
 /// Each of those that it calls is compiled apart: a row more in one leaves the counts of the others as they are.
@@ -121,10 +112,6 @@ fn run(row: usize, side: &str, times: u64) {
     let decisions = calls + calls::ROWS.len();
     let lists = decisions + decisions::ROWS.len();
     let remote_lengths = lists + lists::ROWS.len();
-    let ranges = remote_lengths + remote_lengths::ROWS.len();
-    let joins = ranges + ranges::ROWS.len();
-    let wakes = joins + joins::ROWS.len();
-    let records = wakes + wakes::ROWS.len();
     if row < filters {
         run_frames(&ROWS[row], side, times);
     } else if row < matches {
@@ -137,16 +124,8 @@ fn run(row: usize, side: &str, times: u64) {
         run_decisions(&decisions::ROWS[row - decisions], side, times);
     } else if row < remote_lengths {
         run_lists(&lists::ROWS[row - lists], side, times);
-    } else if row < ranges {
-        run_remote_lengths(&remote_lengths::ROWS[row - remote_lengths], side, times);
-    } else if row < joins {
-        run_ranges(&ranges::ROWS[row - ranges], side, times);
-    } else if row < wakes {
-        run_joins(&joins::ROWS[row - joins], side, times);
-    } else if row < records {
-        run_wakes(&wakes::ROWS[row - wakes], side, times);
     } else {
-        run_records(&records::ROWS[row - records], side, times);
+        run_remote_lengths(&remote_lengths::ROWS[row - remote_lengths], side, times);
     }
 }
 
@@ -187,59 +166,11 @@ fn run_lists(row: &lists::Row, side: &str, times: u64) {
 }
 
 #[inline(never)]
-fn run_joins(row: &joins::Row, side: &str, times: u64) {
-    match side {
-        "driver" => joins::by_plain_face(row, times),
-        "library" => joins::by_library(row, times),
-        "bare" => joins::bare(row, times),
-        _ => repeat(times, || {
-            black_box(row);
-        }),
-    }
-}
-
-#[inline(never)]
 fn run_remote_lengths(row: &remote_lengths::Row, side: &str, times: u64) {
     match side {
         "driver" => remote_lengths::by_face(black_box(&DRIVER), row, times),
         "library" => remote_lengths::by_face(black_box(&LIBRARY), row, times),
         "bare" => remote_lengths::bare(row, times),
-        _ => repeat(times, || {
-            black_box(row);
-        }),
-    }
-}
-
-#[inline(never)]
-fn run_ranges(row: &ranges::Row, side: &str, times: u64) {
-    match side {
-        "driver" => ranges::by_plain_face(row, times),
-        "library" => ranges::by_library(row, times),
-        "bare" => ranges::bare(row, times),
-        _ => repeat(times, || {
-            black_box(row);
-        }),
-    }
-}
-
-#[inline(never)]
-fn run_wakes(row: &wakes::Row, side: &str, times: u64) {
-    match side {
-        "driver" => wakes::by_plain_face(row, times),
-        "library" => wakes::by_library(row, times),
-        "bare" => wakes::bare(row, times),
-        _ => repeat(times, || {
-            black_box(row);
-        }),
-    }
-}
-
-#[inline(never)]
-fn run_records(row: &records::Row, side: &str, times: u64) {
-    match side {
-        "driver" => records::by_plain_face(row, times),
-        "library" => records::by_library(row, times),
-        "bare" => records::bare(row, times),
         _ => repeat(times, || {
             black_box(row);
         }),
