@@ -29,12 +29,12 @@ pub returns-then-put_text-length : goal.returns-then-put_text-length
 unfolding laying written put_at
 returns-then-put_text-length c =
     let both = let put = c.put_text in
-    let short = told _ _ _ put.ensures.0 ∙ lt-leb _ _ c.if-put_text-length.true in
-    (rw short, put.ensures.1 ∙ rw (zero-add, short)) in record { result_value = both.0; out_after = both.1 }
+    let short = told _ _ _ put.ensures.value ∙ lt-leb _ _ c.if-put_text-length.true in
+    (rw short, put.ensures.out_after ∙ rw (zero-add, short)) in record { result_value = both.0; out_after = both.1 }
 
 pub returns : goal.returns
 unfolding laying written put_at
 returns c =
     let both = let put = c.put_text in
-    let fits = told _ _ _ put.ensures.0 ∙ le-leb _ _ c.if-put_text-length.false in
-    (rw fits, put.ensures.1 ∙ rw (zero-add, fits)) in record { result_value = both.0; out_after = both.1 }
+    let fits = told _ _ _ put.ensures.value ∙ le-leb _ _ c.if-put_text-length.false in
+    (rw fits, put.ensures.out_after ∙ rw (zero-add, fits)) in record { result_value = both.0; out_after = both.1 }
