@@ -1,5 +1,6 @@
 // Frame information: what byte 0 of the 13-byte buffer says, and with it where the data are.
 #![tactic(auto)]
+
 ghost use Rattle.std.specs.Prelude.{◌≡◌};
 ghost use Rattle.frame_info.specs.Info.{extended_of, remote_of, own_of, code_of, data_length_of, data_offset_of};
 
@@ -27,6 +28,7 @@ pub fn data_length_code(frame: &[u8; 13]) -> usize
     (frame[0] % 16) as usize
 }
 
+#[tactic(auto, unfolding(crate::specs::Info::data_length_of))]
 pub fn data_length(frame: &[u8; 13]) -> usize
     ensures { result ≡ data_length_of frame.now }
 {

@@ -1,5 +1,6 @@
 // The bits of the status word and of the interrupt word by their positions, and whether one is set.
 #![tactic(auto)]
+
 ghost use Rattle.std.specs.Prelude.{◌≡◌};
 ghost use Rattle.laws.specs.Bits.{is_set};
 

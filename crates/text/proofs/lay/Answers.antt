@@ -28,13 +28,13 @@ module _ (text out : List ℕ) (r : ℕ) (place : r ≡ place_behind 0 text out)
 pub returns-then-put_text-length : goal.returns-then-put_text-length
 unfolding laying written put_at
 returns-then-put_text-length c =
-    let both = let put = c.put_text in
+    let put = c.put_text in
     let short = told _ _ _ put.ensures.value ∙ lt-leb _ _ c.if-put_text-length.true in
-    (rw short, put.ensures.out_after ∙ rw (zero-add, short)) in record { result_value = both.0; out_after = both.1 }
+ record { result_value = rw short; out_after = put.ensures.out_after ∙ rw (zero-add, short) }
 
 pub returns : goal.returns
 unfolding laying written put_at
 returns c =
-    let both = let put = c.put_text in
+    let put = c.put_text in
     let fits = told _ _ _ put.ensures.value ∙ le-leb _ _ c.if-put_text-length.false in
-    (rw fits, put.ensures.out_after ∙ rw (zero-add, fits)) in record { result_value = both.0; out_after = both.1 }
+ record { result_value = rw fits; out_after = put.ensures.out_after ∙ rw (zero-add, fits) }
