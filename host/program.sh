@@ -29,7 +29,7 @@ take_input() { # [--] [FILE]: it becomes standard input, which `-` is already
 
 crates_of() { # CRATE...: they and those that they stand on, from the last to the first; none is listed above them in crates.txt
     awk -F: -v wanted="$*" '
-        /^[a-z]/ { crate[++count] = $1; lists[$1] = $2 }
+        /^[a-z]/ { sub(/ staticlib$/, "", $1); crate[++count] = $1; lists[$1] = $2 }
         END {
             split(wanted, first, " ")
             for (f in first) needed[first[f]]
@@ -59,25 +59,26 @@ say_progress() { # COUNT: passes on what rt says; standard error says how many o
     [ ! -t 2 ] || printf '%s' "${0##*/}: proving: 0 of $1" >&2
     while IFS= read -r line; do
         printf '%s\n' "$line"
-        [[ $line = "rt: "*" proved ("* ]] || continue
+        [[ $line = "logic=proved"* ]] || continue
         proved=$((proved + 1))
         if [ -t 2 ]; then
             printf '\r%s' "${0##*/}: proving: $proved of $1" >&2
-        elif [[ $line != *"(unchanged "* ]]; then
+        else
             echo "${0##*/}: proving: $proved of $1" >&2
         fi
     done
     [ ! -t 2 ] || printf '\r\033[K' >&2
 }
 
+# `rt run` proves and builds a program and runs it, here on nothing: it prints what it then says, and the program stands in its crate's out/.
 prove_program() { # PROGRAM
-    local program=$ROOT/target/bin/$1 state log
+    local program=$ROOT/crates/$1/out/$1 state log
     need_rt
     state=$(state_of "$1")
     [ ! -x "$program" ] || [ "$(cat "$program.state" 2>/dev/null)" != "$state" ] || return 0
     log=$(
-        cd "$ROOT" && set -o pipefail
-        rt check "$1" 2>&1 </dev/null | say_progress "$(crates_of "$1" | wc -l)"
+        cd "$ROOT/crates/$1" && set -o pipefail
+        rt run 2>&1 </dev/null | say_progress "$(crates_of "$1" | wc -l)"
     ) || {
         echo "$log" >&2
         fail "the program could not be built"
@@ -85,11 +86,6 @@ prove_program() { # PROGRAM
     echo "$state" >"$program.state"
 }
 
-# Programs are for x86-64 and run on the kit's C library; on another processor the kit has an emulator.
 run_proved() { # PROGRAM WORDS...
-    local tools emulator
-    tools=$(dirname "$(dirname "$(rt doc)")")/on/$(uname -m)/toolchain
-    emulator=$tools/bin/qemu-x86_64
-    [ -x "$emulator" ] || emulator=
-    ${emulator:+"$emulator"} "$tools/lib/ld-linux-x86-64.so.2" --library-path "$tools/lib" "$ROOT/target/bin/$1" "${@:2}"
+    "$ROOT/crates/$1/out/$1" "${@:2}"
 }

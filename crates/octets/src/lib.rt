@@ -1,5 +1,6 @@
 // Bytes and flags as numbers, with their bounds; a word from its four bytes, its lowest byte; a word and thirteen bytes from a place on.
 #![tactic(auto)]
+
 ghost use Rattle.std.specs.Prelude.{◌≡◌, ◌∷◌, [], ◌<◌, ◌%◌, ◌^◌};
 ghost use Rattle.laws.specs.Row.{bit, pack, bytes};
 ghost use Rattle.octets.specs.Part.{part_or_zeros};

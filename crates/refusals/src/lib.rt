@@ -1,5 +1,6 @@
 // The refusals of the outline and of its change requests, in the order in which they were added, each with what it carries.
 #![tactic(auto)]
+
 ghost use Rattle.std.specs.Prelude.{◌≡◌};
 ghost use Rattle.refusals.specs.Table.{number_of, carried_of, in_one};
 

@@ -1,8 +1,5 @@
 -- `status_bits::is_set` meets its contract: a shift brings the bit to the lowest place, and from 32 on a word has none. Assumes nothing.
-use Prim.Native.Nat.{ℕ, ◌^◌, ◌<◌}
-use mathlib.Core.Path.{◌≡◌, sym, ap}
-use mathlib.Core.Bool.{Bool}
-use lib.Dec.{eqb}
+use Prim.Native.Nat.{◌^◌, ◌<◌}
 use borrow.Author.Rules.{rules}
 use Rattle.laws.proofs.Bits.{bit-beyond}
 use Rattle.status_bits.proofs.is_set.Goals as goal

@@ -1,5 +1,4 @@
 -- `text::digits` meets its contract: a number has one digit more than its tenth, which is what the recursion goes down by. Assumes nothing.
-use Prim.Native.Nat.{ℕ, ◌<◌}
 use mathlib.Core.Path.{sym}
 use native.Mathlib.Omega.{arith}
 use Rattle.text.proofs.Decimal.{step-long, small-long}

@@ -8,7 +8,6 @@ use lib.ListN.{length}
 use native.Mathlib.Nat.{zero-add}
 use native.Mathlib.Omega.{arith}
 use borrow.Author.Tests.{le-leb, lt-leb, leb-true, leb-false}
-use borrow.Author.Rules.{rules}
 use Rattle.laws.specs.Laid.{laying, written}
 use Rattle.text.specs.Put.{place_behind, put_at}
 use Rattle.text.proofs.Put.{put-short, place-put}
@@ -30,11 +29,11 @@ unfolding laying written put_at
 returns-then-put_text-length c =
     let put = c.put_text in
     let short = told _ _ _ put.ensures.value ∙ lt-leb _ _ c.if-put_text-length.true in
- record { result_value = rw short; out_after = put.ensures.out_after ∙ rw (zero-add, short) }
+    record { result_value = rw short; out_after = put.ensures.out_after ∙ rw (zero-add, short) }
 
 pub returns : goal.returns
 unfolding laying written put_at
 returns c =
     let put = c.put_text in
     let fits = told _ _ _ put.ensures.value ∙ le-leb _ _ c.if-put_text-length.false in
- record { result_value = rw fits; out_after = put.ensures.out_after ∙ rw (zero-add, fits) }
+    record { result_value = rw fits; out_after = put.ensures.out_after ∙ rw (zero-add, fits) }

@@ -1,6 +1,5 @@
 -- `text::put_decimal` meets its contract: where there is room for the most digits, or for those that are counted, they are put. Assumes nothing.
 use native.Mathlib.Omega.{arith}
-use borrow.Author.Rules.{rules}
 use Rattle.text.specs.Decimal.{decimal}
 use Rattle.text.proofs.Decimal.{decimal-most}
 use Rattle.text.proofs.Put.{put-short, put-fits}

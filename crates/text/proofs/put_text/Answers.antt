@@ -1,11 +1,9 @@
 -- `text::put_text` meets its contract: where there is room, what is put so far stands laid, and each turn puts one byte more. Assumes nothing.
-use Prim.Native.Nat.{◌-◌, ◌≤◌}
-use mathlib.Core.Path.{◌≡◌, refl, sym, ◌∙◌}
-use lib.ListN.{length, take, length-set}
+use mathlib.Core.Path.{◌≡◌, ◌∙◌}
+use lib.ListN.{length, length-set}
 use lib.Seq.{take-length}
 use native.Mathlib.Omega.{arith}
-use Rattle.laws.specs.Laid.{laid}
-use Rattle.laws.proofs.Laid.{laid_none, laid_more}
+use Rattle.laws.proofs.Laid.{laid_more}
 use Rattle.text.proofs.Put.{put-short, put-fits}
 use Rattle.text.proofs.put_text.Goals as goal
 
