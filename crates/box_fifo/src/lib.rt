@@ -8,13 +8,13 @@ pub const ENTRY_LIMIT: usize = 64;
 pub const WEIGHT_LIMIT: usize = 64;
 
 // A mark's bytes are zeros.
-#[derive(Drop)]
+#[derive(Clone, Copy)]
 pub struct Entry {
     pub mark: bool,
     pub bytes: [u8; 13],
 }
 
-#[derive(Drop)]
+#[derive(Clone, Copy)]
 pub struct Fifo {
     pub entries: [Entry; ENTRY_LIMIT],
     pub head: usize,
@@ -22,14 +22,14 @@ pub struct Fifo {
     pub weight: usize,
 }
 
-#[derive(Drop)]
+#[derive(Clone, Copy)]
 pub enum Arrival {
     Whole,
     Mark,
     NotRecorded,
 }
 
-#[derive(Drop)]
+#[derive(Clone, Copy)]
 pub struct Arrived {
     pub answer: Arrival,
     pub state: Fifo,

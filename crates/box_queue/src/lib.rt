@@ -17,20 +17,20 @@ pub struct Queue {
     pub count: usize,
 }
 
-#[derive(Drop)]
+#[derive(Clone, Copy)]
 pub enum Offering {
     Stored,
     Lost,
     Refused(Refusal),
 }
 
-#[derive(Drop)]
+#[derive(Clone, Copy)]
 pub struct Offered {
     pub answer: Offering,
     pub state: Queue,
 }
 
-#[derive(Drop)]
+#[derive(Clone, Copy)]
 pub enum Taking {
     Got,
     Nothing,
@@ -38,13 +38,13 @@ pub enum Taking {
 }
 
 // The record stands beside the enum: blank where there is none.
-#[derive(Drop)]
+#[derive(Clone, Copy)]
 pub struct TakeAnswer {
     pub taking: Taking,
     pub oldest: Record,
 }
 
-#[derive(Drop)]
+#[derive(Clone, Copy)]
 pub struct Taken {
     pub answer: TakeAnswer,
     pub state: Queue,
