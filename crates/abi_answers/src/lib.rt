@@ -13,7 +13,7 @@ use refusals::Refusal;
 use text::Laying;
 
 #[repr(C)]
-#[derive(Drop)]
+#[derive(Clone, Copy)]
 pub struct Answer {
     pub number: u32,
     pub value: u64,
@@ -76,7 +76,7 @@ pub fn registers(slice: &[u8]) -> [u8; 8]
 }
 
 // What the call under an export came to, where bytes stand beside its answer.
-#[derive(Drop)]
+#[derive(Clone, Copy)]
 pub enum Delivery {
     Given(u64),
     Refused(Refusal),

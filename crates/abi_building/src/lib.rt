@@ -11,7 +11,7 @@ use frame_building::{Building, Built, Way};
 use identifiers::{ExtendedId, Id, StandardId};
 use refusals::Refusal;
 
-#[derive(Drop)]
+#[derive(Clone, Copy)]
 enum IdMade {
     Made(Id),
     Refused(Refusal),

@@ -15,14 +15,14 @@ use box_state::{Phase, ReceiveBox};
 use box_words::{Finished, Words};
 use refusals::Refusal;
 
-#[derive(Drop)]
+#[derive(Clone, Copy)]
 pub enum Command {
     Nothing,
     Abort,
     Release,
 }
 
-#[derive(Drop)]
+#[derive(Clone, Copy)]
 pub enum Stepping {
     Done,
     Lost,
@@ -31,26 +31,26 @@ pub enum Stepping {
 }
 
 // The lost record stands beside the enum: blank where none is lost.
-#[derive(Drop)]
+#[derive(Clone, Copy)]
 pub struct StepAnswer {
     pub stepping: Stepping,
     pub command: Command,
     pub lost: Record,
 }
 
-#[derive(Drop)]
+#[derive(Clone, Copy)]
 pub struct Stepped {
     pub answer: StepAnswer,
     pub state: ReceiveBox,
 }
 
-#[derive(Drop)]
+#[derive(Clone, Copy)]
 pub enum Starting {
     Started,
     Refused(Refusal),
 }
 
-#[derive(Drop)]
+#[derive(Clone, Copy)]
 pub struct Started {
     pub answer: Starting,
     pub state: ReceiveBox,

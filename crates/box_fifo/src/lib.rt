@@ -23,14 +23,14 @@ pub struct Fifo {
     pub weight: usize,
 }
 
-#[derive(Drop)]
+#[derive(Clone, Copy)]
 pub enum Arrival {
     Whole,
     Mark,
     NotRecorded,
 }
 
-#[derive(Drop)]
+#[derive(Clone, Copy)]
 pub struct Arrived {
     pub answer: Arrival,
     pub state: Fifo,

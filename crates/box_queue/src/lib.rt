@@ -9,27 +9,27 @@ use refusals::Refusal;
 // The places of the queue.
 pub const QUEUE_LIMIT: usize = 32;
 
-#[derive(Drop)]
+#[derive(Clone, Copy)]
 pub struct Queue {
     pub places: [Record; QUEUE_LIMIT],
     pub head: usize,
     pub count: usize,
 }
 
-#[derive(Drop)]
+#[derive(Clone, Copy)]
 pub enum Offering {
     Stored,
     Lost,
     Refused(Refusal),
 }
 
-#[derive(Drop)]
+#[derive(Clone, Copy)]
 pub struct Offered {
     pub answer: Offering,
     pub state: Queue,
 }
 
-#[derive(Drop)]
+#[derive(Clone, Copy)]
 pub enum Taking {
     Got,
     Nothing,
@@ -37,13 +37,13 @@ pub enum Taking {
 }
 
 // The record stands beside the enum: blank where there is none.
-#[derive(Drop)]
+#[derive(Clone, Copy)]
 pub struct TakeAnswer {
     pub taking: Taking,
     pub oldest: Record,
 }
 
-#[derive(Drop)]
+#[derive(Clone, Copy)]
 pub struct Taken {
     pub answer: TakeAnswer,
     pub state: Queue,

@@ -4,20 +4,20 @@ ghost use Rattle.std.specs.Prelude.{◌≡◌};
 ghost use Rattle.box_records.specs.Blank.{blank};
 ghost use Rattle.box_records.specs.Same.{same_bytes, same_kind, same_record};
 
-#[derive(Drop)]
+#[derive(Clone, Copy)]
 pub enum RecordError {
     Overrun,
     BusOff,
 }
 
-#[derive(Drop)]
+#[derive(Clone, Copy)]
 pub enum RecordKind {
     Frame,
     Error(RecordError),
 }
 
 // The frame's bytes stand beside the enum, zeros for an error.
-#[derive(Drop)]
+#[derive(Clone, Copy)]
 pub struct Record {
     pub kind: RecordKind,
     pub bytes: [u8; 13],

@@ -11,7 +11,7 @@ use box_words::Words;
 use refusals::Refusal;
 
 // The step that comes next. `Idle`: no drain runs.
-#[derive(Drop)]
+#[derive(Clone, Copy)]
 pub enum Phase {
     Idle,
     Notice,
@@ -23,7 +23,7 @@ pub enum Phase {
     Finish,
 }
 
-#[derive(Drop)]
+#[derive(Clone, Copy)]
 pub struct ReceiveBox {
     pub fifo: Fifo,
     pub queue: Queue,
@@ -32,19 +32,19 @@ pub struct ReceiveBox {
     pub words: Words,
 }
 
-#[derive(Drop)]
+#[derive(Clone, Copy)]
 pub enum Arriving {
     Answered(Arrival),
     Refused(Refusal),
 }
 
-#[derive(Drop)]
+#[derive(Clone, Copy)]
 pub struct Arrived {
     pub answer: Arriving,
     pub state: ReceiveBox,
 }
 
-#[derive(Drop)]
+#[derive(Clone, Copy)]
 pub struct Taken {
     pub answer: TakeAnswer,
     pub state: ReceiveBox,

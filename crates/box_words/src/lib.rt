@@ -8,7 +8,7 @@ use status_bits::{
     BUS_ERROR, BUS_OFF, ERROR, ERROR_PASSIVE, ERROR_WARNING, RECEIVE, TRANSMIT, is_set,
 };
 
-#[derive(Drop)]
+#[derive(Clone, Copy)]
 pub struct Words {
     pub interrupt: u32,
     pub enable: u32,
@@ -16,7 +16,7 @@ pub struct Words {
 }
 
 // The wakes and the new enable word.
-#[derive(Drop)]
+#[derive(Clone, Copy)]
 pub struct Finished {
     pub transmit_wakes: u8,
     pub error_wakes: u8,

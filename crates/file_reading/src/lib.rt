@@ -16,7 +16,7 @@ pub const FILTER_BYTES: usize = 9;
 pub const FRAME_BYTES: usize = 13;
 
 // How many filters and frames there are, and where the first of each stands.
-#[derive(Drop)]
+#[derive(Clone, Copy)]
 pub struct Sections {
     pub filters: usize,
     pub filters_start: usize,
@@ -24,7 +24,7 @@ pub struct Sections {
     pub frames_start: usize,
 }
 
-#[derive(Drop)]
+#[derive(Clone, Copy)]
 pub enum Reading {
     Read(Sections),
     Refused(Refusal),

@@ -18,7 +18,7 @@ use refusals::Refusal;
 use text::Laying;
 
 // How many filters there are, and of each its kind and the two words of its registers.
-#[derive(Drop)]
+#[derive(Clone, Copy)]
 struct Filters {
     count: usize,
     kinds: [u8; FILTER_LIMIT],
@@ -117,7 +117,7 @@ fn put_marks(
 }
 
 // The place after a frame's line, and whether some filter accepts the frame.
-#[derive(Drop)]
+#[derive(Clone, Copy)]
 struct Line {
     end: usize,
     any: bool,
@@ -160,7 +160,7 @@ fn put_line(
 }
 
 // The place after all lines, and how many frames some filter accepts.
-#[derive(Drop)]
+#[derive(Clone, Copy)]
 struct Lines {
     end: usize,
     count: usize,

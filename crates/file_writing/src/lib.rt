@@ -8,7 +8,7 @@ ghost use Rattle.file_writing.specs.Writer.{frames_part, file_of, first_bad_kind
 use file_reading::{FILTER_BYTES, FILTER_LIMIT, FRAME_BYTES, FRAME_LIMIT};
 use refusals::Refusal;
 
-#[derive(Drop)]
+#[derive(Clone, Copy)]
 pub enum Writing {
     Written(usize),
     Refused(Refusal),

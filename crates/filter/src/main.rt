@@ -1,13 +1,16 @@
 // Reads a list of identifiers on standard input, at most one byte more than the longest, and prints its filter. The arguments are the format, and
 // before it `--hex` where bare numbers are hexadecimal. Standard error says behind `error:` what went wrong with input, output or the arguments.
 #![tactic(auto)]
-use libc::{STDERR_FILENO, STDOUT_FILENO};
 use standard_input::Input;
+use std::env::Env;
 use text::Laying;
 
+const STANDARD_OUTPUT: i32 = 1;
+const STANDARD_ERROR: i32 = 2;
+
 fn print(text: &[u8]) {
-    if !io::write_all(STDOUT_FILENO, text) {
-        io::write_all(STDERR_FILENO, b"filter: error: the text can't be written\n");
+    if !io::write_all(STANDARD_OUTPUT, text) {
+        io::write_all(STANDARD_ERROR, b"filter: error: the text can't be written\n");
     }
 }
 
@@ -22,20 +25,20 @@ fn print_text(extended: bool, hex: bool, list: &[u8]) {
         }
         Laying::Refused(_) => {
             io::write_all(
-                STDERR_FILENO,
+                STANDARD_ERROR,
                 b"filter: error: the text is longer than can be\n",
             );
         }
     }
 }
 
-fn print_filter(extended: bool, hex: bool) {
+fn print_filter(rt: &HostRuntime, extended: bool, hex: bool) {
     let mut list = [0u8; 65537];
-    match standard_input::read_input(&mut list) {
+    match standard_input::read_input(&mut rt.stdin(), &mut list) {
         Input::Read(length) => print_text(extended, hex, &list[..length]),
         Input::Failed => {
             io::write_all(
-                STDERR_FILENO,
+                STANDARD_ERROR,
                 b"filter: error: standard input can't be read\n",
             );
         }
@@ -56,44 +59,52 @@ fn same(word: &[u8], other: &[u8]) -> bool {
     true
 }
 
-fn print_by(format: &[u8], hex: bool) {
+fn print_by(rt: &HostRuntime, format: &[u8], hex: bool) {
     if same(format, b"standard") {
-        print_filter(false, hex);
+        print_filter(rt, false, hex);
         return;
     }
     if same(format, b"extended") {
-        print_filter(true, hex);
+        print_filter(rt, true, hex);
         return;
     }
     io::write_all(
-        STDERR_FILENO,
+        STANDARD_ERROR,
         b"filter: error: the format is standard or extended\n",
     );
 }
 
+// Puts an argument at the start of a word, and tells its length, or 0 where it is missing or longer than the word.
+fn argument(rt: &HostRuntime, place: usize, word: &mut [u8]) -> usize {
+    match rt.arg(place, word) {
+        Ok(length) => length,
+        Err(_) => 0,
+    }
+}
+
 // The argument at a place is the format.
-fn print_as(place: usize, hex: bool) {
+fn print_as(rt: &HostRuntime, place: usize, hex: bool) {
     let mut word = [0u8; 16];
-    let length = os::arg(place, &mut word);
+    let length = argument(rt, place, &mut word);
     if length <= 16 {
-        print_by(&word[..length], hex);
+        print_by(rt, &word[..length], hex);
     }
 }
 
 // Whether the first argument is `--hex`.
-fn asks_hex() -> bool {
+fn asks_hex(rt: &HostRuntime) -> bool {
     let mut word = [0u8; 16];
-    let length = os::arg(1, &mut word);
+    let length = argument(rt, 1, &mut word);
     if length <= 16 {
         return same(&word[..length], b"--hex");
     }
     false
 }
 
-fn main() {
-    if asks_hex() {
-        print_as(2, true);
+fn main(rt: HostRuntime) {
+    if asks_hex(&rt) {
+        print_as(&rt, 2, true);
         return;
     }
-    print_as(1, false);
+    print_as(&rt, 1, false);
 }

@@ -17,7 +17,7 @@ use filter_registers::{Compiled, Compiling};
 use refusals::Refusal;
 
 // The widths of a filter's fields.
-#[derive(Drop)]
+#[derive(Clone, Copy)]
 pub struct Widths {
     pub a: usize,
     pub b: usize,

@@ -11,7 +11,7 @@ ghost use Rattle.filter_list.specs.Answers.{first_above, registers_for, through_
 use filter_types::{SingleExtendedFilter, SingleStandardFilter};
 use refusals::Refusal;
 
-#[derive(Drop)]
+#[derive(Clone, Copy)]
 pub enum Listing {
     // How many identifiers get through.
     Made(u32),
@@ -19,14 +19,14 @@ pub enum Listing {
 }
 
 // The answer, and the registers beside it: zeros after a refusal.
-#[derive(Drop)]
+#[derive(Clone, Copy)]
 pub struct Listed {
     pub answer: Listing,
     pub registers: [u8; 8],
 }
 
 // A list folded: the index of its first entry above the limit, or its length; the bits that all entries have; and the positions where some differ.
-#[derive(Drop)]
+#[derive(Clone, Copy)]
 pub struct Folded {
     pub above: usize,
     pub agreed: u32,

@@ -9,7 +9,7 @@ ghost use Rattle.filter_matcher.specs.Words.{miss_of, compare_of, match_of, matc
 use crate::shown::Shown;
 use refusals::Refusal;
 
-#[derive(Drop)]
+#[derive(Clone, Copy)]
 pub enum Matching {
     NotAccepted,
     Accepted,

@@ -8,7 +8,7 @@ ghost use Rattle.filter_matcher.specs.Shown.{first_named, show_of, show_by};
 use identifiers::{ExtendedId, Id, StandardId};
 
 // What a frame shows: its word for a single filter and the positions that it names, and the same for the two halves of a dual filter.
-#[derive(Drop)]
+#[derive(Clone, Copy)]
 pub struct Shown {
     pub single: u32,
     pub named: u32,

@@ -8,14 +8,14 @@ ghost use Rattle.filter_registers.specs.Answers.{compiled_said};
 
 use refusals::Refusal;
 
-#[derive(Drop)]
+#[derive(Clone, Copy)]
 pub enum Compiling {
     Made,
     Refused(Refusal),
 }
 
 // The answer, and the registers beside it: zeros after a refusal.
-#[derive(Drop)]
+#[derive(Clone, Copy)]
 pub struct Compiled {
     pub answer: Compiling,
     pub registers: [u8; 8],

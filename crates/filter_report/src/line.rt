@@ -2,7 +2,7 @@
 ghost use Rattle.std.specs.Prelude.{◌≡◌, Bool, List, ℕ, ◌+◌, ◌*◌, ◌^◌, ◌<◌, ◌≤◌, length, drop};
 ghost use Rattle.filter_report.specs.Line.{is_blank, ends as Line·ends, closes as Line·closes, unblanked, digit_of, base_of, judged as Line·judged, number_from, number_of, is_hex, word_of, line_of};
 
-#[derive(Drop)]
+#[derive(Clone, Copy)]
 pub enum Line {
     Nothing,
     Identifier(u32),

@@ -8,7 +8,7 @@ use crate::line;
 use crate::line::Line;
 
 // How many identifiers, or the first line at fault: its number, and where it begins and ends.
-#[derive(Drop)]
+#[derive(Clone, Copy)]
 pub enum Reading {
     All(usize),
     AboveAt(usize, usize, usize),

@@ -49,7 +49,7 @@ fn different(list: &[u32]) -> usize
 }
 
 // A number's bit at a pattern's first character; how many numbers the rest lets through; and which of them has the other bits.
-#[derive(Drop)]
+#[derive(Clone, Copy)]
 pub struct Halved {
     pub bit: u32,
     pub size: usize,

@@ -77,16 +77,16 @@ fn extended_within(code: ExtendedId, mask: ExtendedId) -> bool
     Id::Extended(mask).within_limit()
 }
 
-#[derive(Drop)]
+#[derive(Clone, Copy)]
 pub struct SingleStandardFilter;
 
-#[derive(Drop)]
+#[derive(Clone, Copy)]
 pub struct SingleExtendedFilter;
 
-#[derive(Drop)]
+#[derive(Clone, Copy)]
 pub struct DualStandardFilter;
 
-#[derive(Drop)]
+#[derive(Clone, Copy)]
 pub struct DualExtendedFilter;
 
 impl SingleStandardFilter {

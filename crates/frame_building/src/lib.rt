@@ -12,14 +12,14 @@ use identifiers::Id;
 use octets::one_bit;
 use refusals::Refusal;
 
-#[derive(Drop)]
+#[derive(Clone, Copy)]
 pub enum Building {
     Made,
     Refused(Refusal),
 }
 
 // The answer, and the buffer beside it: zeros after a refusal.
-#[derive(Drop)]
+#[derive(Clone, Copy)]
 pub struct Built {
     pub answer: Building,
     pub frame: [u8; 13],
@@ -27,7 +27,7 @@ pub struct Built {
 
 // The ways of building: the Rust's, where a remote frame has code 0, and that of ISO 11898-1, where its code is the
 // length that it asks for, 0 to 8.
-#[derive(Drop)]
+#[derive(Clone, Copy)]
 pub enum Way {
     Rust,
     Iso,

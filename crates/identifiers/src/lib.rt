@@ -7,26 +7,26 @@ ghost use Rattle.identifiers.specs.Answers.{standard_said, extended_said, new_of
 
 use refusals::Refusal;
 
-#[derive(Drop)]
+#[derive(Clone, Copy)]
 pub struct StandardId(pub u16);
 
-#[derive(Drop)]
+#[derive(Clone, Copy)]
 pub struct ExtendedId(pub u32);
 
 // One or the other, and which.
-#[derive(Drop)]
+#[derive(Clone, Copy)]
 pub enum Id {
     Standard(StandardId),
     Extended(ExtendedId),
 }
 
-#[derive(Drop)]
+#[derive(Clone, Copy)]
 pub enum StandardMade {
     Made(StandardId),
     Refused(Refusal),
 }
 
-#[derive(Drop)]
+#[derive(Clone, Copy)]
 pub enum ExtendedMade {
     Made(ExtendedId),
     Refused(Refusal),

@@ -7,7 +7,7 @@ ghost use Rattle.status_decisions.specs.Decisions.{transmit_of, poll_of, receive
 use status_bits::{BUS_OFF, MISS, RECEIVE_READY, TRANSMIT_FREE, is_set};
 
 // What is to be done to the peripheral. The frame that is written is the caller's; a decision never looks into it.
-#[derive(Drop)]
+#[derive(Clone, Copy)]
 pub enum Command {
     Nothing,
     Abort,
@@ -15,7 +15,7 @@ pub enum Command {
     ReadAndRelease,
 }
 
-#[derive(Drop)]
+#[derive(Clone, Copy)]
 pub enum TransmitAnswer {
     BusOff,
     TransmissionAborted,
@@ -23,13 +23,13 @@ pub enum TransmitAnswer {
     Written,
 }
 
-#[derive(Drop)]
+#[derive(Clone, Copy)]
 pub struct Transmission {
     pub answer: TransmitAnswer,
     pub command: Command,
 }
 
-#[derive(Drop)]
+#[derive(Clone, Copy)]
 pub enum PollAnswer {
     BusOff,
     TransmissionAborted,
@@ -38,14 +38,14 @@ pub enum PollAnswer {
 }
 
 // In flight: whether this future's frame has been written, after the poll.
-#[derive(Drop)]
+#[derive(Clone, Copy)]
 pub struct Polling {
     pub answer: PollAnswer,
     pub command: Command,
     pub in_flight: bool,
 }
 
-#[derive(Drop)]
+#[derive(Clone, Copy)]
 pub enum ReceiveAnswer {
     BusOff,
     WouldBlock,
@@ -53,7 +53,7 @@ pub enum ReceiveAnswer {
     Received,
 }
 
-#[derive(Drop)]
+#[derive(Clone, Copy)]
 pub struct Reception {
     pub answer: ReceiveAnswer,
     pub command: Command,

@@ -4,8 +4,10 @@ mod compilers;
 mod replay;
 mod text;
 
-use libc::{STDIN_FILENO, STDOUT_FILENO};
 use replay::Progress;
+
+const STANDARD_INPUT: i32 = 0;
+const STANDARD_OUTPUT: i32 = 1;
 
 // What stands on standard input, at most 64 MiB of it.
 fn replayed() -> Progress {
@@ -13,7 +15,7 @@ fn replayed() -> Progress {
     let mut turns: usize = 0;
     while turns < 1024 {
         let mut buffer = io::large_buffer();
-        let length = io::read_full(STDIN_FILENO, &mut buffer);
+        let length = io::read_full(STANDARD_INPUT, &mut buffer);
         if length == 0 {
             return progress;
         }
@@ -25,8 +27,8 @@ fn replayed() -> Progress {
 
 fn main() {
     let progress = replayed();
-    io::print_decimal(STDOUT_FILENO, progress.answers);
-    io::write_all(STDOUT_FILENO, b" answers replayed, ");
-    io::print_decimal(STDOUT_FILENO, progress.differ);
-    io::write_all(STDOUT_FILENO, b" differ\n");
+    io::print_decimal(STANDARD_OUTPUT, progress.answers);
+    io::write_all(STANDARD_OUTPUT, b" answers replayed, ");
+    io::print_decimal(STANDARD_OUTPUT, progress.differ);
+    io::write_all(STANDARD_OUTPUT, b" differ\n");
 }

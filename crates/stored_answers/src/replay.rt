@@ -3,7 +3,7 @@ use crate::{compilers, text};
 use abi_answers::Answer;
 
 // How far the replay is: the line so far, and what was counted.
-#[derive(Drop)]
+#[derive(Clone, Copy)]
 pub struct Progress {
     pub line: [u8; 1280],
     pub used: usize,

@@ -10,7 +10,7 @@ ghost use Rattle.text.specs.Laying.{laying_said};
 
 use refusals::Refusal;
 
-#[derive(Drop)]
+#[derive(Clone, Copy)]
 pub enum Laying {
     Laid(usize),
     Refused(Refusal),
