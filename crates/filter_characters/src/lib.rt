@@ -1,5 +1,6 @@
 // Pattern characters: whether all bytes are `0`, `1` or `x`, and the first that is none of them.
 #![tactic(auto)]
+
 ghost use Rattle.std.specs.Prelude.{◌≡◌};
 ghost use Rattle.filter_characters.specs.Characters.{is_character, all_characters, bad_at};
 

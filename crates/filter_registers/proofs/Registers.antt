@@ -1,26 +1,15 @@
 -- The registers hold both words: four bytes in a row are the number that they draw. Assumes nothing.
-use Prim.Native.Nat.{ℕ, ◌+◌, ◌-◌, ◌*◌, ◌/◌, ◌%◌, ◌^◌, ◌<◌}
+use Prim.Native.Nat.{ℕ, ◌-◌, ◌^◌, ◌<◌}
 use mathlib.Core.Logic.{◌↔◌}
-use mathlib.Core.Path.{◌≡◌, sym, ap, ap₂, ◌∙◌}
-use mathlib.Core.List.{[], ◌∷◌, ◌++◌}
+use mathlib.Core.Path.{◌≡◌, sym, ap, ◌∙◌}
 use native.Mathlib.Decide.{dec_lt}
 use native.Mathlib.Omega.{arith}
 use Rattle.laws.specs.Row.{bytes}
 use Rattle.laws.specs.Bits.{bit_at}
-use Rattle.laws.proofs.Row.{pack-unpack, four_bytes}
+use Rattle.laws.proofs.Row.{pack-unpack}
 use Rattle.laws.proofs.Bits.{bit-lt, bit_not, bit_past}
 use Rattle.filter_registers.specs.Registers.{registers_of, code_in, mask_in}
 use Rattle.filter_registers.specs.Meaning.{Agree, Accepts}
-
--- the eight bytes of one word that has both
-pub eight-bytes : (code mask w a b c d e f g h : ℕ) → code < 2 ^ 32 → mask < 2 ^ 32 → w ≡ code * 2 ^ 32 + 4294967295 - mask
-    → a ≡ w / 2 ^ 56 % 256 → b ≡ w / 2 ^ 48 % 256 → c ≡ w / 2 ^ 40 % 256 → d ≡ w / 2 ^ 32 % 256
-    → e ≡ w / 2 ^ 24 % 256 → f ≡ w / 2 ^ 16 % 256 → g ≡ w / 2 ^ 8 % 256 → h ≡ w % 256
-    → a ∷ b ∷ c ∷ d ∷ e ∷ f ∷ g ∷ h ∷ [] ≡ registers_of code mask
-eight-bytes code mask w a b c d e f g h hc hm sum ea eb ec ed ee ef eg eh =
-    ap₂ ◌++◌
-    (four_bytes code a b c d hc (omega arith) (omega arith) (omega arith) (omega arith))
-    (four_bytes (2 ^ 32 - 1 - mask) e f g h (omega arith) (omega arith) (omega arith) (omega arith) (omega arith))
 
 pub code-back : (code mask : ℕ) → code < 2 ^ 32 → code_in (registers_of code mask) ≡ code
 code-back code mask h = pack-unpack (bytes 4) code h

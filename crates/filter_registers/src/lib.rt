@@ -1,5 +1,6 @@
 // Filter registers: the eight acceptance registers of a code and a mask, and the answer that they stand beside.
 #![tactic(auto)]
+
 ghost use Rattle.std.specs.Prelude.{◌≡◌, ◌%◌, replicate};
 ghost use Rattle.laws.specs.Said.{gives};
 ghost use Rattle.refusals.specs.Table.{refusal_said};

@@ -33,7 +33,7 @@ ids-length format id = unpack-length (bytes (id_bytes format)) (pack (id_row for
 -- a frame without data
 abbrev pub emptied : Frame → Frame
 emptied f =
-    record { extended = f.extended; remote = f.remote; own_val = f.own; code = f.code; id = f.id; payload = [] }
+    record { extended = f.extended; remote = f.remote; own = f.own; code = f.code; id = f.id; payload = [] }
 
 -- its buffer, spelt out
 pub fronted : (f : Frame) (first : ℕ) (ids : List ℕ) → first ≡ info_byte f.extended f.remote f.own f.code

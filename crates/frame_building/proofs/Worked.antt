@@ -14,7 +14,7 @@ use Rattle.frame_building.specs.declared.Way.TheVariants.{Rust, Iso}
 -- standard, 0x123
 abbrev remote : ℕ → List ℕ → Frame
 remote code payload =
-    record { extended = false; remote = true; own_val = false; code = code; id = 0x123; payload = payload }
+    record { extended = false; remote = true; own = false; code = code; id = 0x123; payload = payload }
 
 pub code-eight : build_in Iso (remote 8 []) ≡ (gives 13, 0x48 ∷ 0x24 ∷ 0x60 ∷ replicate 10 0)
 unfolding buffer_of judge_by build_by

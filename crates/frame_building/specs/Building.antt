@@ -82,7 +82,7 @@ built_said r = (building_said r.answer, r.frame)
 -- the frame that a caller asks for
 abbrev pub asked : Id → Bool → Bool → ℕ → List ℕ → Frame
 asked id remote own code payload =
-    record { extended = is_extended id; remote = remote; own_val = own; code = code; id = raw_of id; payload = payload }
+    record { extended = is_extended id; remote = remote; own = own; code = code; id = raw_of id; payload = payload }
 
 -- a data frame, whose code is its length
 abbrev pub asked_data : Id → Bool → List ℕ → Frame

@@ -1,5 +1,6 @@
 // Frames built: the 13-byte buffer made from what a frame says, or the refusal that is due.
 #![tactic(auto)]
+
 ghost use Rattle.std.specs.Prelude.{◌≡◌, true, false, [], ◌∷◌, ◌%◌, ◌≤◌, ◌<◌, ltb, length};
 ghost use Rattle.laws.specs.Laid.{laid};
 ghost use Rattle.laws.specs.Said.{refuses};

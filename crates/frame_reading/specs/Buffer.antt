@@ -42,7 +42,7 @@ frame_of b =
     record {
       extended = extended_of b;
       remote = remote_of b;
-      own_val = own_of b;
+      own = own_of b;
       code = code_of b;
       id = id_of b;
       payload = data_of b;

@@ -1,5 +1,6 @@
 // Frames: the identifier and the data of the 13-byte buffer, read.
 #![tactic(auto)]
+
 ghost use Rattle.std.specs.Prelude.{◌≡◌, true, false, ◌≤◌};
 ghost use Rattle.identifiers.specs.Limits.{limit_of, is_extended, raw_of};
 ghost use Rattle.frame_reading.specs.Buffer.{id_in, data_of, used_of};

@@ -1,5 +1,6 @@
 // Decisions: what transmit, the transmit poll and receive answer to a status word, and the command that goes with the answer.
 #![tactic(auto)]
+
 ghost use Rattle.std.specs.Prelude.{◌≡◌};
 ghost use Rattle.status_decisions.specs.Answers.{command_said, transmit_said, poll_said, receive_said, transmission_said, polling_said, reception_said};
 ghost use Rattle.status_decisions.specs.Decisions.{transmit_of, poll_of, receive_of};

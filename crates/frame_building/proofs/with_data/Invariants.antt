@@ -1,0 +1,12 @@
+-- `frame_building::with_data` meets its contract: what is copied so far stands laid, and each turn lays one byte more. Assumes nothing.
+use Prim.Native.Nat.{◌≤◌, ◌-◌}
+use mathlib.Core.Path.{◌≡◌}
+use lib.ListN.{length, take}
+use Rattle.laws.specs.Laid.{laid}
+use Rattle.frame_building.proofs.with_data.Given as goal
+
+abbrev pub invariant-loop-i : goal.invariant-loop-i
+invariant-loop-i l = (l.i ≤ length l.data) × (l.filled ≡ laid l.start (take l.i l.data) l.initial.filled)
+
+abbrev pub decreases-loop-i : goal.decreases-loop-i
+decreases-loop-i l = length l.data - l.i
