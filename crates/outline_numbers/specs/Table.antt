@@ -31,7 +31,7 @@ and_then a next = cond (accepted a.0) (next a.1) a
 
 abbrev frame : Bool → ℕ → Bool → ℕ → List ℕ → Frame
 frame extended id remote code payload =
-    record { extended = extended; remote = remote; own_val = false; code = code; id = id; payload = payload }
+    record { extended = extended; remote = remote; own = false; code = code; id = id; payload = payload }
 
 abbrev standard : ℕ → ℕ → List ℕ → Frame
 standard id code payload = frame false id false code payload
