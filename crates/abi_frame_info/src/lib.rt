@@ -1,5 +1,6 @@
 // What the information byte of a frame of 13 bytes says, for other languages: each field as an answer of two numbers (docs/ABI.md).
 #![tactic(auto)]
+
 ghost use Rattle.std.specs.Prelude.{◌≡◌};
 ghost use Rattle.laws.specs.Said.{gives};
 ghost use Rattle.laws.specs.Row.{bit};

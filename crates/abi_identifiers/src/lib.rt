@@ -1,5 +1,6 @@
 // Identifiers for other languages: a plain number in, an answer of two numbers out (docs/ABI.md).
 #![tactic(auto)]
+
 ghost use Rattle.std.specs.Prelude.{◌≡◌, true, false};
 ghost use Rattle.identifiers.specs.Answers.{standard_said, extended_said, new_of, base_of};
 ghost use Rattle.abi_answers.specs.Answers.{answer_of};
