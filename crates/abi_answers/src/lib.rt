@@ -1,5 +1,6 @@
 // What an exported function answers, and bytes in and out of lent slices.
 #![tactic(auto)]
+
 ghost use Rattle.std.specs.Prelude.{◌≡◌, [], ◌∷◌, length};
 ghost use Rattle.laws.specs.Said.{gives, refuses};
 ghost use Rattle.laws.specs.Row.{bit};

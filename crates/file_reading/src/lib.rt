@@ -1,5 +1,6 @@
 // The frame file's reader: it answers both counts and where each section starts.
 #![tactic(auto)]
+
 ghost use Rattle.std.specs.Prelude.{◌≡◌, ◌<◌, ◌≤◌};
 ghost use Rattle.file_reading.specs.Format.{filter_limit, frame_limit};
 ghost use Rattle.file_reading.specs.Reader.{sections_with, frames_from, frames_at, filters_from, read_of, reading_said};

@@ -1,5 +1,6 @@
 // Why a frame file is refused, in words, in a lent output; nothing where it is read.
 #![tactic(auto)]
+
 ghost use Rattle.std.specs.Prelude.{◌≡◌, ◌+◌, ◌<◌, ◌≤◌, length, get_or};
 ghost use Rattle.laws.specs.Laid.{laid_first, laying, written};
 ghost use Rattle.text.specs.Laying.{laying_said};

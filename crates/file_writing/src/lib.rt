@@ -1,5 +1,6 @@
 // The frame file's writer: it lays each section into the rest of the output that it is lent.
 #![tactic(auto)]
+
 ghost use Rattle.std.specs.Prelude.{◌≡◌, ◌+◌, ◌*◌, ◌/◌, ◌≤◌, length};
 ghost use Rattle.laws.specs.Laid.{laid_first};
 ghost use Rattle.file_reading.specs.Format.{filter_bytes, frame_bytes, filter_limit, frame_limit};
