@@ -1,6 +1,7 @@
 // Filter patterns: the acceptance registers that the patterns of a filter's fields ask for. A filter's fields are drawn into a row of 32
 // characters as the manual draws the registers, bit 31 first; `x` stands where no field does.
 #![tactic(auto)]
+
 ghost use Rattle.std.specs.Prelude.{◌≡◌, true, false, ◌∷◌, [], ◌+◌, ◌-◌, ◌*◌, ◌/◌, ◌%◌, ◌^◌, ◌<◌, ◌≤◌, length, drop, get_or};
 ghost use Rattle.std.specs.Int.Bits.{bit_and, bit_or};
 ghost use Rattle.std.proofs.Math.Seq.{paste};

@@ -1,12 +1,12 @@
 -- The answers from code and mask, each from the tests that lead to it. Assumes nothing.
-use Prim.Native.Nat.{ℕ, suc, ◌≤◌}
+use Prim.Native.Nat.{ℕ, suc}
 use mathlib.Core.Path.{◌≡◌, refl, ap, ◌∙◌}
 use mathlib.Core.Bool.{Bool, true, false, cond, ◌&&◌, false≢true}
 use mathlib.Core.List.{List, [], ◌∷◌}
-use lib.Dec.{T, leb, leb→le}
+use lib.Dec.{leb}
 use lib.ListN.{length, replicate}
 use Rattle.laws.specs.Said.{Said, refuses, gives, accepted}
-use Rattle.laws.proofs.Bools.{both_left, both_right, both_true}
+use Rattle.laws.proofs.Bools.{both_true}
 use Rattle.identifiers.specs.Limits.{limit_of}
 use Rattle.filter_registers.specs.Registers.{registers_of}
 use Rattle.filter_compilers.specs.Table.{Filter, single_standard, single_extended, dual_standard, dual_extended, fields_of}
@@ -24,13 +24,6 @@ pub code-mask-made : (filter : Filter) (codes masks : List ℕ) (code mask : ℕ
     → ◌≡◌ {A = Said ℕ × List ℕ} (gives 8, registers_of code mask) (code_mask_of filter codes masks)
 unfolding code_mask_of
 code-mask-made filter codes masks code mask e c m = rw (e, c, m)
-
-pub both-within : (format : Bool) (code mask : ℕ) → both_within format code mask ≡ true → (code ≤ limit_of format) × (mask ≤ limit_of format)
-both-within format code mask e =
-    let t : T (both_within format code mask) = rw e tt in (
-      leb→le code (limit_of format) (both_left (leb code (limit_of format)) (leb mask (limit_of format)) t),
-      leb→le mask (limit_of format) (both_right (leb code (limit_of format)) (leb mask (limit_of format)) t),
-    )
 
 -- ---- all codes and then all masks, or identifier by identifier as the code asks: the same tests
 one-both : (code mask : Bool) → ((code && true) && (mask && true)) ≡ (code && mask)

@@ -1,5 +1,6 @@
 // Filters: the acceptance registers of the four filters, from patterns and from code and mask.
 #![tactic(auto)]
+
 ghost use Rattle.std.specs.Prelude.{◌≡◌, true, false, ◌∷◌, [], ◌<◌};
 ghost use Rattle.laws.specs.Row.{bit};
 ghost use Rattle.filter_registers.specs.Answers.{compiled_said};
