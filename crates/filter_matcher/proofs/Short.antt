@@ -1,7 +1,7 @@
 -- Request #103, sentence by sentence, for a standard frame: without data, which a remote frame never has, it is judged on identifier and RTR alone; with one
 -- byte a single filter compares one byte; with two or more, two; and with one or more the first half of a dual filter compares both nibbles. What stands at a
 -- place of the data is a byte of the frame where it is below the data length. Assumes nothing.
-use Prim.Native.Nat.{ℕ, ◌+◌, ◌≤◌, ◌<◌}
+use Prim.Native.Nat.{ℕ, ◌≤◌, ◌<◌}
 use mathlib.Core.Path.{◌≡◌, refl, sym, ap, ap₂, ◌∙◌}
 use mathlib.Core.Bool.{Bool, true, false, ◌&&◌, ◌||◌}
 use mathlib.Core.List.{List, ◌++◌}

@@ -1,5 +1,6 @@
 // The matcher: whether a filter's registers accept a frame.
 #![tactic(auto)]
+
 pub mod shown;
 
 ghost use Rattle.std.specs.Prelude.{◌≡◌, [], ◌∷◌, ◌/◌, ◌%◌, ◌^◌};
