@@ -1,5 +1,6 @@
 // A drain of the box, by value: its start, and the step that comes next.
 #![tactic(auto)]
+
 mod answers;
 mod offers;
 mod steps;
@@ -71,6 +72,7 @@ fn is_idle(phase: Phase) -> bool
     }
 }
 
+#[tactic(auto, unfolding(crate::specs::Step::first_phase))]
 fn first_phase(words: Words) -> Phase
     ensures { result ≡ first_phase words }
 {
@@ -81,6 +83,7 @@ fn first_phase(words: Words) -> Phase
 }
 
 // A drain starts: its words are stored, and no step is made.
+#[tactic(auto, unfolding(crate::specs::Start::start_of))]
 pub fn start(state: ReceiveBox, words: Words) -> Started
     ensures { started_said result ≡ start_of state words }
 {
@@ -110,6 +113,7 @@ pub fn start(state: ReceiveBox, words: Words) -> Started
 }
 
 // The next step of the drain that runs.
+#[tactic(auto, unfolding(crate::specs::Step::step_of))]
 pub fn step(state: ReceiveBox) -> Stepped
     ensures { stepped_said result ≡ step_of state }
 {

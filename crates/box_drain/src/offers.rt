@@ -31,6 +31,7 @@ fn with_queue(state: ReceiveBox, queue: Queue, phase: Phase) -> ReceiveBox
 }
 
 // Offers a record to the queue, and goes on at one of two steps.
+#[tactic(auto, unfolding(crate::specs::Step::offering))]
 fn offer_record(
     state: ReceiveBox,
     offered: Record,
@@ -56,6 +57,7 @@ fn offer_record(
     }
 }
 
+#[tactic(auto, unfolding(crate::specs::Step::after_notice))]
 pub(crate) fn after_notice(words: Words) -> Phase
     ensures { result ≡ after_notice words }
 {
@@ -65,6 +67,7 @@ pub(crate) fn after_notice(words: Words) -> Phase
     Phase::Finish
 }
 
+#[tactic(auto, unfolding(crate::specs::Step::notice_step))]
 pub(crate) fn notice_step(state: ReceiveBox) -> Stepped
     ensures { stepped_said result ≡ notice_step state }
 {
@@ -74,6 +77,7 @@ pub(crate) fn notice_step(state: ReceiveBox) -> Stepped
     offer_record(state, notice, Command::Abort, next, next)
 }
 
+#[tactic(auto, unfolding(crate::specs::Step::offer_step))]
 pub(crate) fn offer_step(state: ReceiveBox) -> Stepped
     ensures { stepped_said result ≡ offer_step state }
 {

@@ -16,6 +16,7 @@ fn at_phase(state: ReceiveBox, phase: Phase) -> ReceiveBox
     }
 }
 
+#[tactic(auto, unfolding(crate::specs::Step::look_step))]
 pub(crate) fn look_step(state: ReceiveBox) -> Stepped
     ensures { stepped_said result ≡ look_step state }
 {
@@ -37,6 +38,7 @@ fn holding(state: ReceiveBox, held: Record) -> ReceiveBox
     }
 }
 
+#[tactic(auto, unfolding(crate::specs::Step::miss_step))]
 pub(crate) fn miss_step(state: ReceiveBox) -> Stepped
     ensures { stepped_said result ≡ miss_step state }
 {
@@ -51,6 +53,7 @@ pub(crate) fn miss_step(state: ReceiveBox) -> Stepped
     answers::quiet(Command::Nothing, at_phase(state, Phase::Copy))
 }
 
+#[tactic(auto, unfolding(crate::specs::Step::copy_step))]
 pub(crate) fn copy_step(state: ReceiveBox) -> Stepped
     ensures { stepped_said result ≡ copy_step state }
 {
@@ -59,6 +62,7 @@ pub(crate) fn copy_step(state: ReceiveBox) -> Stepped
     answers::quiet(Command::Nothing, holding(state, copy))
 }
 
+#[tactic(auto, unfolding(crate::specs::Step::release_step))]
 pub(crate) fn release_step(state: ReceiveBox) -> Stepped
     ensures { stepped_said result ≡ release_step state }
 {
@@ -72,6 +76,7 @@ pub(crate) fn release_step(state: ReceiveBox) -> Stepped
     answers::quiet(Command::Release, next)
 }
 
+#[tactic(auto, unfolding(crate::specs::Step::finish_step))]
 pub(crate) fn finish_step(state: ReceiveBox) -> Stepped
     ensures { stepped_said result ≡ finish_step state }
 {

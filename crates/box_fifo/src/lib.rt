@@ -1,5 +1,6 @@
 // The controller's FIFO by value: a ring of entries, each whole or an overrun mark, and their weight.
 #![tactic(auto)]
+
 ghost use Rattle.std.specs.Prelude.{◌≡◌, ◌-◌, ◌<◌, ◌≤◌};
 ghost use Rattle.box_fifo.specs.Ring.{entry_limit, weight_of, sum_of, fifo_ok, mark_entry, empty_fifo, front_of, pushed, released, arrive_of, arrived_said};
 
@@ -35,6 +36,7 @@ pub struct Arrived {
     pub state: Fifo,
 }
 
+#[tactic(auto, unfolding(crate::specs::Ring::weight_of))]
 fn weight_of(entry: Entry) -> usize
     ensures { result ≡ weight_of entry }
 {
@@ -49,6 +51,7 @@ fn weight_of(entry: Entry) -> usize
     3 + length
 }
 
+#[tactic(auto, unfolding(crate::specs::Ring::sum_to))]
 fn sum_weights(fifo: Fifo) -> usize
     requires { (fifo.head < entry_limit) × (fifo.count ≤ entry_limit) }
     ensures { result ≡ sum_of fifo }
@@ -108,6 +111,7 @@ impl Fifo {
     }
 
     // Whether the FIFO keeps its rules.
+    #[tactic(auto, unfolding(crate::specs::Ring::fifo_ok))]
     pub fn valid(self) -> bool
         ensures { result ≡ fifo_ok self }
     {
@@ -123,6 +127,7 @@ impl Fifo {
         sum_weights(self) == self.weight
     }
 
+    #[tactic(auto, unfolding(crate::specs::Ring::arrive_of))]
     pub fn arrive(self, frame: [u8; 13]) -> Arrived
         ensures { arrived_said result ≡ arrive_of self frame }
     {

@@ -1,5 +1,6 @@
 // The box lent by its caller: each call makes the call by value, and stores the box that comes of it.
 #![tactic(auto)]
+
 ghost use Rattle.box_lent.specs.Calls.{arrive_lent, take_lent, start_lent, step_lent};
 
 use box_drain::{Starting, StepAnswer};

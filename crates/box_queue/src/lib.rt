@@ -1,5 +1,6 @@
 // The receive queue by value: a ring of records, of which the oldest is taken first.
 #![tactic(auto)]
+
 ghost use Rattle.std.specs.Prelude.{◌≡◌};
 ghost use Rattle.box_queue.specs.Ring.{queue_limit, empty_queue, queue_ok, offer_of, offered_said, take_of, taken_said};
 
@@ -61,6 +62,7 @@ impl Queue {
     }
 
     // Whether the queue keeps its rules.
+    #[tactic(auto, unfolding(crate::specs::Ring::queue_ok))]
     pub fn valid(self) -> bool
         ensures { result ≡ queue_ok queue_limit self }
     {
@@ -70,6 +72,7 @@ impl Queue {
         self.count <= QUEUE_LIMIT
     }
 
+    #[tactic(auto, unfolding(crate::specs::Ring::queue_ok, crate::specs::Ring::offer_of))]
     pub fn offer(self, offered: Record) -> Offered
         ensures { offered_said result ≡ offer_of queue_limit self offered }
     {
@@ -95,6 +98,7 @@ impl Queue {
         }
     }
 
+    #[tactic(auto, unfolding(crate::specs::Ring::queue_ok, crate::specs::Ring::take_of))]
     pub fn take(self) -> Taken
         ensures { taken_said result ≡ take_of queue_limit self }
     {

@@ -1,5 +1,6 @@
 // The box by value: its rules, arrivals and takes.
 #![tactic(auto)]
+
 ghost use Rattle.std.specs.Prelude.{◌≡◌};
 ghost use Rattle.box_state.specs.Rules.{record_of, front_ready, copy_ready, release_ready, phase_ok, box_ok};
 ghost use Rattle.box_state.specs.Calls.{fresh_box, arrived_said, arrive_of, taken_said, take_of};
@@ -68,6 +69,7 @@ pub fn record_of(entry: Entry) -> Record
 }
 
 // Between look and release the FIFO is not empty.
+#[tactic(auto, unfolding(crate::specs::Rules::front_ready))]
 fn front_ready(state: ReceiveBox) -> bool
     ensures { result ≡ front_ready state }
 {
@@ -80,6 +82,7 @@ fn front_ready(state: ReceiveBox) -> bool
 }
 
 // At copy the front is whole.
+#[tactic(auto, unfolding(crate::specs::Rules::copy_ready))]
 fn copy_ready(state: ReceiveBox) -> bool
     ensures { result ≡ copy_ready state }
 {
@@ -92,6 +95,7 @@ fn copy_ready(state: ReceiveBox) -> bool
 }
 
 // At release the held record is the front's.
+#[tactic(auto, unfolding(crate::specs::Rules::release_ready))]
 fn release_ready(state: ReceiveBox) -> bool
     ensures { result ≡ release_ready state }
 {
@@ -123,6 +127,7 @@ fn phase_ok(state: ReceiveBox) -> bool
 
 impl ReceiveBox {
     // The state rules.
+    #[tactic(auto, unfolding(crate::specs::Rules::box_ok))]
     pub fn valid(self) -> bool
         ensures { result ≡ box_ok self }
     {
@@ -158,6 +163,7 @@ impl ReceiveBox {
     }
 
     // A frame arrives at the controller.
+    #[tactic(auto, unfolding(crate::specs::Calls::arrive_of))]
     pub fn arrive(self, frame: [u8; 13]) -> Arrived
         ensures { arrived_said result ≡ arrive_of self frame }
     {
@@ -182,6 +188,7 @@ impl ReceiveBox {
     }
 
     // The program takes the oldest record.
+    #[tactic(auto, unfolding(crate::specs::Calls::take_of))]
     pub fn take(self) -> Taken
         ensures { taken_said result ≡ take_of self }
     {

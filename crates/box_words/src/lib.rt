@@ -1,5 +1,6 @@
 // The words of a start, what they call for, and what a finish answers.
 #![tactic(auto)]
+
 ghost use Rattle.std.specs.Prelude.{◌≡◌};
 ghost use Rattle.box_words.specs.Due.{receive_due, notice_due, error_due, finish_of};
 
@@ -24,12 +25,14 @@ pub struct Finished {
 }
 
 impl Words {
+    #[tactic(auto, unfolding(crate::specs::Due::receive_due))]
     pub fn receive_due(self) -> bool
         ensures { result ≡ receive_due self }
     {
         is_set(self.interrupt, RECEIVE)
     }
 
+    #[tactic(auto, unfolding(crate::specs::Due::notice_due))]
     pub fn notice_due(self) -> bool
         ensures { result ≡ notice_due self }
     {
@@ -42,6 +45,7 @@ impl Words {
         is_set(self.status, ERROR)
     }
 
+    #[tactic(auto, unfolding(crate::specs::Due::error_due))]
     fn error_due(self) -> bool
         ensures { result ≡ error_due self }
     {
@@ -54,6 +58,7 @@ impl Words {
         is_set(self.interrupt, BUS_ERROR)
     }
 
+    #[tactic(auto, unfolding(crate::specs::Due::finish_of))]
     pub fn finish(self) -> Finished
         ensures { result ≡ finish_of self }
     {
