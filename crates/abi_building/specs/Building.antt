@@ -19,7 +19,7 @@ id_from false raw = cond (leb raw 0xFFFF) (Made (Standard (record { 0 = raw })))
 
 abbrev pub plain : Bool → ℕ → Bool → Bool → ℕ → List ℕ → Frame
 plain extended id remote own code payload =
-    record { extended = extended; remote = remote; own_val = own; code = code; id = id; payload = payload }
+    record { extended = extended; remote = remote; own = own; code = code; id = id; payload = payload }
 
 abbrev pub plain_data : Bool → ℕ → Bool → List ℕ → Frame
 plain_data extended id own payload = plain extended id false own (length payload) payload

@@ -1,5 +1,6 @@
 // Frames built from plain numbers and bytes, into a lent slice of 13 bytes (docs/ABI.md).
 #![tactic(auto)]
+
 ghost use Rattle.std.specs.Prelude.{◌≡◌, true, false};
 ghost use Rattle.frame_building.specs.Building.{built_said};
 ghost use Rattle.frame_building.specs.declared.Way.TheVariants.{Iso};

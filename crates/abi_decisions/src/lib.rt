@@ -1,5 +1,6 @@
 // The three decisions for other languages: the answer, the command and whether a frame is in flight, in one number (docs/ABI.md).
 #![tactic(auto)]
+
 ghost use Rattle.std.specs.Prelude.{◌≡◌, ◌≤◌};
 ghost use Rattle.laws.specs.Said.{gives};
 ghost use Rattle.abi_answers.specs.Answers.{answer_of};

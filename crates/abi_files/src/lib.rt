@@ -1,5 +1,6 @@
 // The frame file's reader and writer for other languages (docs/ABI.md).
 #![tactic(auto)]
+
 ghost use Rattle.std.specs.Prelude.{◌≡◌, ◌<◌, length};
 ghost use Rattle.abi_answers.specs.Answers.{answer_of};
 ghost use Rattle.file_reading.specs.Reader.{read_of};

@@ -1,5 +1,6 @@
 // The four filter compilers by patterns, into a lent slice of eight registers.
 #![tactic(auto)]
+
 ghost use Rattle.std.specs.Prelude.{◌≡◌, [], ◌∷◌};
 ghost use Rattle.filter_compilers.specs.Table.{single_standard, single_extended, dual_standard, dual_extended};
 ghost use Rattle.filter_compilers.specs.Answers.{compile_of};

@@ -1,5 +1,6 @@
 // What a frame of 13 bytes holds, for other languages: its identifier as an answer of two numbers, its bytes into a lent output (docs/ABI.md).
 #![tactic(auto)]
+
 ghost use Rattle.std.specs.Prelude.{◌≡◌};
 ghost use Rattle.laws.specs.Said.{gives};
 ghost use Rattle.identifiers.specs.Limits.{raw_of};

@@ -1,5 +1,6 @@
 // The four filter compilers by code and mask, into a lent slice of eight registers.
 #![tactic(auto)]
+
 ghost use Rattle.std.specs.Prelude.{◌≡◌, [], ◌∷◌};
 ghost use Rattle.laws.specs.Row.{bit};
 ghost use Rattle.filter_compilers.specs.Table.{single_standard, single_extended, dual_standard, dual_extended};

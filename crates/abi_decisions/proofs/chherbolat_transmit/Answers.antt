@@ -2,7 +2,6 @@
 use Prim.Native.Nat.{ℕ}
 use mathlib.Core.Bool.{Bool, true, false, cond}
 use mathlib.Core.Path.{◌≡◌, refl, ap, ◌∙◌}
-use borrow.Author.Rules.{rules}
 use Rattle.laws.specs.Said.{gives}
 use Rattle.abi_answers.specs.Answers.{answer_of}
 use Rattle.status_bits.specs.Status.{transmit_free, in_bus_off}
@@ -10,8 +9,7 @@ use Rattle.status_decisions.specs.Answers.{Answer, Action, bus_off, done, would_
 use Rattle.status_decisions.specs.Decisions.{transmit_of, not_free}
 use Rattle.abi_decisions.specs.Numbers.{decided}
 use Rattle.abi_decisions.specs.Commands.{with_transmit}
-use Rattle.abi_decisions.proofs.chherbolat_transmit.Statement.{statement}
-use Rattle.abi_decisions.proofs.chherbolat_transmit.Tie as tie
+use Rattle.abi_decisions.proofs.chherbolat_transmit.Goals as goal
 
 -- the command goes with the answer
 abbrev told : Bool → Bool → Bool → Answer × Action
@@ -26,27 +24,9 @@ together false false false = refl
 command-goes-with-the-answer : (status : ℕ) → (passive : Bool) → with_transmit (transmit_of status passive).0 ≡ (transmit_of status passive).1
 command-goes-with-the-answer status passive = together (in_bus_off status) (transmit_free status) passive
 
-transmit-requires : tie.Need-transmit-requires
-transmit-requires c κs = search rules
-
-transmit-number-requires : tie.Need-transmit-number-requires
-transmit-number-requires c κs = search rules
-
-given-requires : tie.Need-given-requires
-given-requires c κs = search rules
-
-returns : tie.Need-returns
+pub returns : goal.returns
 returns c =
     c.given.ensures
-    ∙ ap (λ (n : ℕ). answer_of (gives n)) (c.before.transmit-number.ensures
-    ∙ ap (λ (d : Answer × Action). decided (d.0, with_transmit d.0)) c.before.before.transmit.ensures
-    ∙ ap (λ (a : Action). decided ((transmit_of c.before.before.before.args.status c.before.before.before.args.error-passive).0, a)) (command-goes-with-the-answer c.before.before.before.args.status c.before.before.before.args.error-passive))
-
-pub chherbolat-transmit-spec : {M : Type 1} → statement M
-chherbolat-transmit-spec =
-    tie.close
-    (tie.spec
-    transmit-requires
-    transmit-number-requires
-    given-requires
-    returns)
+    ∙ ap (λ (n : ℕ). answer_of (gives n)) (c.transmit_number.ensures
+    ∙ ap (λ (d : Answer × Action). decided (d.0, with_transmit d.0)) c.transmit-decision.ensures
+    ∙ ap (λ (a : Action). decided ((transmit_of c.args.status c.args.error_passive).0, a)) (command-goes-with-the-answer c.args.status c.args.error_passive))
