@@ -1,10 +1,12 @@
 // Reads a frame file on standard input, at most one byte more than the longest, and prints the report on it. Standard error
 // says in words why a file is refused, and behind `error:` what went wrong with input or output.
 #![tactic(auto)]
+
 use standard_input::Input;
 use text::Laying;
 
 const STANDARD_OUTPUT: i32 = 1;
+
 const STANDARD_ERROR: i32 = 2;
 
 // What was printed on standard output: a report with each frame's verdicts, one that says `refused`, or not all of it.
