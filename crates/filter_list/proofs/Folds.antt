@@ -1,7 +1,7 @@
 -- The fold of a list tells each position's character: a position is not among the differing ones exactly if each entry has the first one's bit there.
 -- And the first entry above the limit, looked for one entry more at each turn. Assumes nothing.
 use Prim.Native.Nat.{ℕ, zero, suc, ◌+◌, ◌≤◌, ◌<◌, max}
-use mathlib.Core.Path.{◌≡◌, refl, sym, ap, ap₂, ◌∙◌}
+use mathlib.Core.Path.{◌≡◌, refl, sym, ap, ap₂, ◌∙◌, subst}
 use mathlib.Core.Bool.{Bool, true, false, cond, ◌&&◌}
 use mathlib.Core.List.{List, [], ◌∷◌}
 use lib.Bits.{bit_and, bit_or, bit_xor, differ}
@@ -94,7 +94,7 @@ folded first k rest =
 
     zeros : bit_at first k ≡ 0
         → cond (eqb (cond (all_have (bit_at first k) k list) 0 1) 1) 120 (48 + cond (all_have 1 k list) (bit_at first k) 0) ≡ character_at list k
-    zeros e = rw e (by (all_have 0 k rest))
+    zeros e = subst (λ (b : ℕ). cond (eqb (cond (all_have b k list) 0 1) 1) 120 (48 + cond (all_have 1 k list) b 0) ≡ character_at list k) (sym e) (rw e (by (all_have 0 k rest)))
       where
         by : (b : Bool) → ◌≡◌ {A = ℕ} (cond (eqb (cond b 0 1) 1) 120 48) (cond b 48 120)
         by true = refl
@@ -102,7 +102,7 @@ folded first k rest =
 
     ones : bit_at first k ≡ 1
         → cond (eqb (cond (all_have (bit_at first k) k list) 0 1) 1) 120 (48 + cond (all_have 1 k list) (bit_at first k) 0) ≡ character_at list k
-    ones e = rw e (by (all_have 1 k rest))
+    ones e = subst (λ (b : ℕ). cond (eqb (cond (all_have b k list) 0 1) 1) 120 (48 + cond (all_have 1 k list) b 0) ≡ character_at list k) (sym e) (rw e (by (all_have 1 k rest)))
       where
         by : (b : Bool) → ◌≡◌ {A = ℕ} (cond (eqb (cond b 0 1) 1) 120 (48 + cond b 1 0)) (cond b 49 120)
         by true = refl

@@ -1,5 +1,6 @@
 // A filter from a list: the single filter that lets all identifiers of a list through, and as little else as possible.
 #![tactic(auto)]
+
 ghost use Rattle.std.specs.Prelude.{◌≡◌, ℕ, ◌^◌, ◌<◌, ◌≤◌, length, replicate};
 ghost use Rattle.laws.specs.Said.{gives};
 ghost use Rattle.laws.specs.Laid.{laid_first};

@@ -1,0 +1,13 @@
+-- `filter_list::write` meets its contract: what is written so far stands in front, and each turn writes one character more. Assumes nothing.
+use Prim.Native.Nat.{◌-◌, ◌≤◌}
+use mathlib.Core.Path.{◌≡◌}
+use mathlib.Core.List.{◌++◌}
+use lib.ListN.{take, drop}
+use Rattle.filter_list.specs.Pattern.{character_by, down_from}
+use Rattle.filter_list.proofs.write.Given as goal
+
+abbrev pub invariant-loop-i : goal.invariant-loop-i
+invariant-loop-i l = (l.i ≤ l.width) × (l.pattern ≡ take l.i (down_from l.width (character_by l.agreed l.differing)) ++ drop l.i l.initial.pattern)
+
+abbrev pub decreases-loop-i : goal.decreases-loop-i
+decreases-loop-i l = l.width - l.i
