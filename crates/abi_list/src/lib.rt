@@ -1,5 +1,6 @@
 // A filter from a list for other languages: its pattern and its registers in lent slices (docs/ABI.md).
 #![tactic(auto)]
+
 ghost use Rattle.std.specs.Prelude.{◌≡◌, length};
 ghost use Rattle.laws.specs.Laid.{written};
 ghost use Rattle.identifiers.specs.Limits.{width_of};

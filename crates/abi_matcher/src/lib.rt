@@ -1,5 +1,6 @@
 // The matcher: a kind, a slice of eight registers and a slice of 13 frame bytes.
 #![tactic(auto)]
+
 ghost use Rattle.std.specs.Prelude.{◌≡◌};
 ghost use Rattle.filter_matcher.specs.Words.{match_of, matching_said};
 ghost use Rattle.abi_answers.specs.Answers.{answer_of, sized, flag_said};

@@ -1,5 +1,6 @@
 // The report on a frame file for other languages: the file's bytes in, the text out (docs/ABI.md).
 #![tactic(auto)]
+
 ghost use Rattle.std.specs.Prelude.{◌≡◌};
 ghost use Rattle.laws.specs.Laid.{laying, written};
 ghost use Rattle.abi_answers.specs.Answers.{answer_of};
