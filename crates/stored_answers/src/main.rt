@@ -1,5 +1,6 @@
 // Replays the Rust's stored answers (on standard input, a line each; its first lines say how) and counts those that ours differ from.
 #![tactic(auto)]
+
 mod compilers;
 mod replay;
 mod text;
@@ -7,6 +8,7 @@ mod text;
 use replay::Progress;
 
 const STANDARD_INPUT: i32 = 0;
+
 const STANDARD_OUTPUT: i32 = 1;
 
 // What stands on standard input, at most 64 MiB of it.
