@@ -1,5 +1,5 @@
 -- `stored_answers::replayed`: it ends, by the count of its turns. Assumes nothing.
-use Rattle.std.proofs.Common.{◌-◌, ◌≤◌, rules}
+use Rattle.std.proofs.Common.{◌-◌, ◌≤◌}
 use Rattle.stored_answers.proofs.replayed.Given as goal
 
 abbrev pub invariant-loop-turns : goal.invariant-loop-turns

@@ -1,5 +1,5 @@
 -- `stored_answers::text::decode`: it ends, by what is left of the line, and keeps within its room. Assumes nothing.
-use Rattle.std.proofs.Common.{◌-◌, ◌≤◌, length, rules}
+use Rattle.std.proofs.Common.{◌-◌, ◌≤◌, length}
 use Rattle.stored_answers.proofs.text.decode.Given as goal
 
 abbrev pub invariant-loop-i : goal.invariant-loop-i

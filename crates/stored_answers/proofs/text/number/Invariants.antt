@@ -1,5 +1,5 @@
 -- `stored_answers::text::number`: it ends, by what is left of the column, and does not wrap. Assumes nothing.
-use Rattle.std.proofs.Common.{◌-◌, ◌≤◌, length, rules}
+use Rattle.std.proofs.Common.{◌-◌, ◌≤◌, length}
 use Rattle.stored_answers.proofs.text.number.Given as goal
 
 abbrev pub invariant-loop-i : goal.invariant-loop-i

@@ -1,5 +1,5 @@
 -- `stored_answers::replay::Progress::after`: it ends, by what is left of the bytes. Assumes nothing.
-use Rattle.std.proofs.Common.{◌-◌, ◌≤◌, length, rules}
+use Rattle.std.proofs.Common.{◌-◌, ◌≤◌, length}
 use Rattle.stored_answers.proofs.replay.Progress.after.Given as goal
 
 abbrev pub invariant-loop-i : goal.invariant-loop-i
