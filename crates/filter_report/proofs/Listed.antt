@@ -1,8 +1,8 @@
 -- The answer to a list that is not empty and within its limit, and what stands on the page for it. Assumes nothing.
 use Prim.Native.Nat.{ℕ, ◌≤◌, ◌<◌}
-use mathlib.Core.Path.{◌≡◌, refl, sym, ap, ◌∙◌}
+use mathlib.Core.Path.{◌≡◌, sym, ap, ◌∙◌}
 use mathlib.Core.Bool.{Bool, true, false, false≢true}
-use mathlib.Core.List.{List, [], ◌∷◌}
+use mathlib.Core.List.{List}
 use lib.ListN.{length, take}
 use lib.Seq.{take_at}
 use native.Mathlib.Omega.{arith}
@@ -18,7 +18,6 @@ use Rattle.filter_list.specs.declared.Listing.TheVariants.{Made, Refused}
 use Rattle.filter_list.specs.declared.Listed.{Listed}
 use Rattle.filter_list.proofs.Pattern.{down-length}
 use Rattle.filter_report.specs.Lines.{Found, listed, found_in}
-use Rattle.filter_report.specs.Text.{none_text, filter_text, list_text}
 use Rattle.filter_report.specs.declared.lines.Reading.{Reading}
 use Rattle.filter_report.specs.Parts.{reading_found, reading_within, through_in}
 use Rattle.filter_report.proofs.Within.{AllWithin, found_within}
@@ -55,14 +54,6 @@ module _ (extended : Bool) (list : List ℕ) (some : 0 < length list) (within : 
       let here : listing_of extended list (length out) ≡ gives (through_of extended (registers_of_list extended list)) = ap (listing_of extended list) long ∙ made in
       let laid : now ≡ laid_first (pattern_of (width_of extended) list) out = e ∙ rw here in
       ap (take (width_of extended)) laid ∙ take_at (pattern_of (width_of extended) list) _ (width_of extended) (pattern-long extended list)
-
-pub list-none : (extended : Bool) (list : List ℕ) → length list ≡ 0 → none_text ≡ list_text extended list
-list-none extended [] h = refl
-list-none extended (n ∷ list) h = absurd (omega (arith, h))
-
-pub list-some : (extended : Bool) (list : List ℕ) → (length list ≡ 0 → ⊥) → filter_text extended list ≡ list_text extended list
-list-some extended [] h = absurd (h refl)
-list-some extended (n ∷ list) h = refl
 
 -- a reading by its case
 pub within_by : (r s : Reading) (size n : ℕ) → r ≡ s → reading_within r size n → reading_within s size n

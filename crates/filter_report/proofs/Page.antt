@@ -3,7 +3,7 @@ use Prim.Native.Nat.{ℕ, ◌+◌, ◌*◌, ◌/◌, ◌%◌, ◌≤◌, ◌<◌
 use mathlib.Core.Path.{◌≡◌, refl, sym, ap, ap₂, ◌∙◌}
 use mathlib.Core.List.{List, [], ◌∷◌, ◌++◌}
 use lib.ListN.{length, get_or, take, set, length-append}
-use lib.Seq.{take-suc, take_at, length-take-le}
+use lib.Seq.{take-suc, length-take-le}
 use native.Mathlib.Numerals.{add-one}
 use native.Mathlib.Omega.{arith}
 use Rattle.laws.specs.Laid.{laid}
@@ -38,10 +38,6 @@ put-none at page = record { behind = omega arith; stands = sym (laid_none at pag
 
 pub put-equal : {at next : ℕ} {a b page now : List ℕ} → a ≡ b → Put at a page now next → Put at b page now next
 put-equal {at} {next} {a} {b} {page} {now} e p = rw e at p
-
--- the front of a page
-pub put_first : {next : ℕ} {text page now : List ℕ} → Put 0 text page now next → take next now ≡ text
-put_first {next} {text} {page} {now} p = ap (take next) p.stands ∙ take_at text _ next (omega (arith, p.behind))
 
 -- ---- bytes in hexadecimal
 hex-more : (a : List ℕ) (byte : ℕ) → hex_of (a ++ (byte ∷ [])) ≡ (hex_of a ++ (hex_digit (byte / 16) ∷ [])) ++ (hex_digit (byte % 16) ∷ [])

@@ -1,15 +1,15 @@
 -- A line read from left to right: each definition by the character at a place. Assumes nothing.
-use Prim.Native.Nat.{ℕ, zero, suc, ◌+◌, ◌*◌, ◌≤◌, ◌<◌}
-use mathlib.Core.Path.{◌≡◌, refl, sym, ap, ◌∙◌}
+use Prim.Native.Nat.{ℕ, ◌+◌, ◌*◌, ◌≤◌, ◌<◌}
+use mathlib.Core.Path.{◌≡◌, sym, ap, ◌∙◌}
 use mathlib.Core.Bool.{Bool, true, false, cond}
 use mathlib.Core.List.{List, [], ◌∷◌}
-use lib.Dec.{eqb, ltb}
+use lib.Dec.{ltb}
 use lib.ListN.{length, get_or, drop, drop_of_length-le}
 use lib.Seq.{drop-cons, get_or-drop}
 use native.Mathlib.Numerals.{add-one}
 use native.Mathlib.Omega.{arith}
 use borrow.Author.Tests.{lt-ltb, le-ltb, lt-leb, eq-eqb, ne_eqb}
-use Rattle.filter_report.specs.Line.{is_blank, ends, closes, unblanked, digit_of, base_of, judged, number_from, number_of, is_hex}
+use Rattle.filter_report.specs.Line.{is_blank, ends, closes, unblanked, digit_of, base_of, judged, number_from, number_of}
 use Rattle.filter_report.specs.declared.line.Line.TheVariants.{NotANumber}
 
 -- the rest of a line by its first character
@@ -110,29 +110,3 @@ module _ (limit : ℕ) (hex : Bool) where
   pub grown-above : (sixteen : Bool) (n digit : ℕ) (line : List ℕ) → limit < n → number_from limit hex sixteen (base_of sixteen * n + digit) line ≡ number_from limit hex sixteen n line
   grown-above true n digit line h = above_same true (16 * n + digit) n line (omega arith) h
   grown-above false n digit line h = above_same false (10 * n + digit) n line (omega arith) h
-
--- whether a word begins with `0x`
-module _ (line : List ℕ) (i : ℕ) where
-  zeroth : get_or (drop i line) 0 0 ≡ get_or line i 0
-  zeroth = get_or-drop i line 0 0 ∙ ap (λ (n : ℕ). get_or line n 0) {x = i + 0} {y = i} (omega arith)
-
-  next : get_or (drop i line) 1 0 ≡ get_or line (i + 1) 0
-  next = get_or-drop i line 1 0
-
-  pub hex-other : (get_or line i 0 ≡ 48 → ⊥) → is_hex (drop i line) ≡ false
-  hex-other n = rw (zeroth, ne_eqb (get_or line i 0) 48 n)
-
-  pub hex-second : get_or line i 0 ≡ 48 → is_hex (drop i line) ≡ eqb (get_or line (i + 1) 0) 120
-  hex-second a = rw (zeroth, next, eq-eqb (get_or line i 0) 48 a)
-
-  pub hex-short : length line < i + 2 → is_hex (drop i line) ≡ false
-  hex-short h = rw (next, past line (i + 1) (omega arith)) (same (eqb (get_or (drop i line) 0 0) 48))
-    where
-      past : (l : List ℕ) (k : ℕ) → length l ≤ k → get_or l k 0 ≡ 0
-      past [] k h = refl
-      past (c ∷ l) zero h = absurd (omega arith)
-      past (c ∷ l) (suc k) h = past l k (omega arith)
-
-      same : (b : Bool) → cond b false false ≡ false
-      same true = refl
-      same false = refl

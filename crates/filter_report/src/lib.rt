@@ -1,5 +1,6 @@
 // The text for a list of identifiers, given as text: the list's filter, or the line at fault.
 #![tactic(auto)]
+
 mod faults;
 mod line;
 mod lines;
