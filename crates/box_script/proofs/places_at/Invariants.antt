@@ -1,0 +1,17 @@
+-- `places_at`: each turn fills one place more. Assumes nothing.
+use Prim.Native.Nat.{ℕ, ◌+◌, ◌*◌, ◌-◌, ◌≤◌}
+use mathlib.Core.Path.{◌≡◌}
+use lib.ListN.{length, take}
+use Rattle.laws.specs.Tabulate.{tabulate}
+use Rattle.box_script.specs.State.{record_at}
+use Rattle.box_script.proofs.places_at.Given as goal
+
+abbrev pub invariant-loop-i : goal.invariant-loop-i
+invariant-loop-i l = record {
+  within : l.i ≤ 32;
+  long : length l.places ≡ 32;
+  filled : take l.i l.places ≡ tabulate l.i (λ (k : ℕ). record_at l.script (l.at + 14 * k));
+}
+
+abbrev pub decreases-loop-i : goal.decreases-loop-i
+decreases-loop-i l = 32 - l.i
