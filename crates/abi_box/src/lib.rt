@@ -1,5 +1,6 @@
 // The box for other languages: a script of calls in, their answers as bytes out (docs/ABI.md).
 #![tactic(auto)]
+
 ghost use Rattle.std.specs.Prelude.{◌≡◌, length};
 ghost use Rattle.laws.specs.Laid.{written};
 ghost use Rattle.abi_answers.specs.Answers.{answer_of};
