@@ -1,16 +1,21 @@
 // Reads a list of identifiers on standard input, at most one byte more than the longest, and prints its filter. The arguments are the format, and
 // before it `--hex` where bare numbers are hexadecimal. Standard error says behind `error:` what went wrong with input, output or the arguments.
 #![tactic(auto)]
+
 use standard_input::Input;
 use std::env::Env;
 use text::Laying;
 
 const STANDARD_OUTPUT: i32 = 1;
+
 const STANDARD_ERROR: i32 = 2;
 
 fn print(text: &[u8]) {
     if !io::write_all(STANDARD_OUTPUT, text) {
-        io::write_all(STANDARD_ERROR, b"filter: error: the text can't be written\n");
+        io::write_all(
+            STANDARD_ERROR,
+            b"filter: error: the text can't be written\n",
+        );
     }
 }
 
