@@ -44,7 +44,14 @@ pub extern "C" fn chherbolat_dual_standard_filter_new(
     ensures value { result ≡ answer_of (delivering 8 5 registers.old (compile_of dual_standard (first_id.now ∷ first_rtr.now ∷ first_payload.now ∷ second_id.now ∷ second_rtr.now ∷ []))) }
     ensures registers_after { registers.new ≡ delivery_leaves 8 5 registers.old (compile_of dual_standard (first_id.now ∷ first_rtr.now ∷ first_payload.now ∷ second_id.now ∷ second_rtr.now ∷ [])) }
 {
-    abi_filters::chherbolat_dual_standard_filter_new(first_id, first_rtr, first_payload, second_id, second_rtr, registers)
+    abi_filters::chherbolat_dual_standard_filter_new(
+        first_id,
+        first_rtr,
+        first_payload,
+        second_id,
+        second_rtr,
+        registers,
+    )
 }
 
 #[unsafe(no_mangle)]

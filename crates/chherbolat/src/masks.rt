@@ -22,7 +22,17 @@ pub extern "C" fn chherbolat_single_standard_filter_new_from_code_mask(
     ensures value { result ≡ answer_of (delivering 8 8 registers.old (code_mask_of single_standard (id_code ∷ bit rtr_code ∷ first_code ∷ second_code ∷ []) (id_mask ∷ bit rtr_mask ∷ first_mask ∷ second_mask ∷ []))) }
     ensures registers_after { registers.new ≡ delivery_leaves 8 8 registers.old (code_mask_of single_standard (id_code ∷ bit rtr_code ∷ first_code ∷ second_code ∷ []) (id_mask ∷ bit rtr_mask ∷ first_mask ∷ second_mask ∷ [])) }
 {
-    abi_masks::chherbolat_single_standard_filter_new_from_code_mask(id_code, id_mask, rtr_code, rtr_mask, first_code, second_code, first_mask, second_mask, registers)
+    abi_masks::chherbolat_single_standard_filter_new_from_code_mask(
+        id_code,
+        id_mask,
+        rtr_code,
+        rtr_mask,
+        first_code,
+        second_code,
+        first_mask,
+        second_mask,
+        registers,
+    )
 }
 
 #[unsafe(no_mangle)]
@@ -36,7 +46,9 @@ pub extern "C" fn chherbolat_single_extended_filter_new_from_code_mask(
     ensures value { result ≡ answer_of (delivering 8 4 registers.old (code_mask_of single_extended (id_code ∷ bit rtr_code ∷ []) (id_mask ∷ bit rtr_mask ∷ []))) }
     ensures registers_after { registers.new ≡ delivery_leaves 8 4 registers.old (code_mask_of single_extended (id_code ∷ bit rtr_code ∷ []) (id_mask ∷ bit rtr_mask ∷ [])) }
 {
-    abi_masks::chherbolat_single_extended_filter_new_from_code_mask(id_code, id_mask, rtr_code, rtr_mask, registers)
+    abi_masks::chherbolat_single_extended_filter_new_from_code_mask(
+        id_code, id_mask, rtr_code, rtr_mask, registers,
+    )
 }
 
 #[unsafe(no_mangle)]
@@ -56,7 +68,19 @@ pub extern "C" fn chherbolat_dual_standard_filter_new_from_code_mask(
     ensures value { result ≡ answer_of (delivering 8 10 registers.old (code_mask_of dual_standard (first_id_code ∷ bit first_rtr_code ∷ first_payload_code ∷ second_id_code ∷ bit second_rtr_code ∷ []) (first_id_mask ∷ bit first_rtr_mask ∷ first_payload_mask ∷ second_id_mask ∷ bit second_rtr_mask ∷ []))) }
     ensures registers_after { registers.new ≡ delivery_leaves 8 10 registers.old (code_mask_of dual_standard (first_id_code ∷ bit first_rtr_code ∷ first_payload_code ∷ second_id_code ∷ bit second_rtr_code ∷ []) (first_id_mask ∷ bit first_rtr_mask ∷ first_payload_mask ∷ second_id_mask ∷ bit second_rtr_mask ∷ [])) }
 {
-    abi_masks::chherbolat_dual_standard_filter_new_from_code_mask(first_id_code, first_id_mask, first_rtr_code, first_rtr_mask, first_payload_code, first_payload_mask, second_id_code, second_id_mask, second_rtr_code, second_rtr_mask, registers)
+    abi_masks::chherbolat_dual_standard_filter_new_from_code_mask(
+        first_id_code,
+        first_id_mask,
+        first_rtr_code,
+        first_rtr_mask,
+        first_payload_code,
+        first_payload_mask,
+        second_id_code,
+        second_id_mask,
+        second_rtr_code,
+        second_rtr_mask,
+        registers,
+    )
 }
 
 #[unsafe(no_mangle)]
@@ -70,5 +94,11 @@ pub extern "C" fn chherbolat_dual_extended_filter_new_from_code_mask(
     ensures value { result ≡ answer_of (delivering 8 4 registers.old (code_mask_of dual_extended (first_code ∷ second_code ∷ []) (first_mask ∷ second_mask ∷ []))) }
     ensures registers_after { registers.new ≡ delivery_leaves 8 4 registers.old (code_mask_of dual_extended (first_code ∷ second_code ∷ []) (first_mask ∷ second_mask ∷ [])) }
 {
-    abi_masks::chherbolat_dual_extended_filter_new_from_code_mask(first_code, second_code, first_mask, second_mask, registers)
+    abi_masks::chherbolat_dual_extended_filter_new_from_code_mask(
+        first_code,
+        second_code,
+        first_mask,
+        second_mask,
+        registers,
+    )
 }

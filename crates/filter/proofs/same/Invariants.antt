@@ -1,7 +1,6 @@
 -- `filter::same` ends, and reads within both words, which are equally long. Assumes nothing.
 use Prim.Native.Nat.{◌≤◌, ◌-◌}
 use lib.ListN.{length}
-use native.Mathlib.Omega.{arith}
 use Rattle.filter.proofs.same.Given as goal
 
 abbrev pub invariant-loop-i : goal.invariant-loop-i
