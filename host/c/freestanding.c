@@ -1,4 +1,4 @@
-/* The library in a program with no C library: memcpy is all that it asks for. The exit status is 0 if all is well. */
+/* The library in a program with no C library: memcpy and memset are all that it asks for. The exit status is 0 if all is well. */
 #include "chherbolat.h"
 
 void *memcpy(void *to, const void *from, size_t length)
@@ -7,6 +7,14 @@ void *memcpy(void *to, const void *from, size_t length)
     const uint8_t *read = from;
     for (size_t i = 0; i < length; i++)
         written[i] = read[i];
+    return to;
+}
+
+void *memset(void *to, int value, size_t length)
+{
+    uint8_t *written = to;
+    for (size_t i = 0; i < length; i++)
+        written[i] = (uint8_t)value;
     return to;
 }
 
