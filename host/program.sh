@@ -51,7 +51,7 @@ state_of() { # CRATE...: a digest of the kit and of the sources that they are ma
     for crate in $(crates_of "$@"); do
         folders+=("crates/$crate/src" "crates/$crate/specs" "crates/$crate/proofs")
     done
-    { rt version && cat crates.txt && find "${folders[@]}" -type f -print0 2>/dev/null | sort -z | xargs -0 sha256sum; } | sha256sum
+    { rt version </dev/null && cat crates.txt && find "${folders[@]}" -type f -print0 2>/dev/null | sort -z | xargs -0 sha256sum; } | sha256sum
 }
 
 say_progress() { # COUNT: passes on what rt says; standard error says how many of the crates are proved, on a terminal in one line that goes again
