@@ -1,5 +1,4 @@
 -- `frame_reading::data` meets its contract: the part starts at the data offset and has the data length. Assumes nothing.
-use Prim.Native.Nat.{◌+◌, ◌≤◌}
 use mathlib.Core.Path.{◌≡◌}
 use lib.ListN.{length}
 use native.Mathlib.Omega.{arith}
@@ -16,8 +15,7 @@ pub slice_bounds-result-end : goal.slice_bounds-result-end
 slice_bounds-result-end c =
     let b = c.args.frame.now in
     let room : length b ≡ 13 = search rules in
-    let end : c.data_offset-start.result + c.data_length.result ≤ length b = omega (arith, used-bound b, c.data_offset-start.ensures, c.data_length.ensures) in
-    end
+    omega (arith, used-bound b, c.data_offset-start.ensures, c.data_length.ensures)
 
 pub returns : goal.returns
 unfolding data_of
