@@ -3,7 +3,7 @@
 
 mod compilers;
 mod replay;
-mod text;
+mod stored_text;
 
 use replay::Progress;
 
