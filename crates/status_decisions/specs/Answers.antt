@@ -1,17 +1,16 @@
 -- The answers and the commands by the outline's words, and each enum's case as its word.
 -- Source: the outline, "Decisions".
-use Rattle.std.specs.Prelude.{Bool}
+use Rattle.std.specs.Prelude.{Bool, Result, Ok, Err, Option, Some, None}
 use Rattle.status_decisions.specs.declared.Command.{Command}
 use Rattle.status_decisions.specs.declared.Command.TheVariants as command
-use Rattle.status_decisions.specs.declared.TransmitAnswer.{TransmitAnswer}
-use Rattle.status_decisions.specs.declared.TransmitAnswer.TheVariants as transmit
-use Rattle.status_decisions.specs.declared.PollAnswer.{PollAnswer}
-use Rattle.status_decisions.specs.declared.PollAnswer.TheVariants as poll
-use Rattle.status_decisions.specs.declared.ReceiveAnswer.{ReceiveAnswer}
-use Rattle.status_decisions.specs.declared.ReceiveAnswer.TheVariants as receive
-use Rattle.status_decisions.specs.declared.Transmission.{Transmission}
+use Rattle.status_decisions.specs.declared.TransmitError.{TransmitError}
+use Rattle.status_decisions.specs.declared.TransmitError.TheVariants as transmit
+use Rattle.status_decisions.specs.declared.PollError.{PollError}
+use Rattle.status_decisions.specs.declared.PollError.TheVariants as poll
+use Rattle.status_decisions.specs.declared.ReceiveError.{ReceiveError}
+use Rattle.status_decisions.specs.declared.ReceiveError.TheVariants as receive
+use Rattle.status_decisions.specs.declared.Decision.{Decision}
 use Rattle.status_decisions.specs.declared.Polling.{Polling}
-use Rattle.status_decisions.specs.declared.Reception.{Reception}
 
 -- done: the frame is written, was sent, or is read, as the call has it
 pub data Answer : Type 0 where
@@ -34,29 +33,30 @@ command_said command.Abort = abort
 command_said command.WriteFrame = write_frame
 command_said command.ReadAndRelease = read_and_release
 
-abbrev pub transmit_said : TransmitAnswer → Answer
-transmit_said transmit.BusOff = bus_off
-transmit_said transmit.TransmissionAborted = transmission_aborted
-transmit_said transmit.WouldBlock = would_block
-transmit_said transmit.Written = done
+abbrev pub transmit_said : Result (Unit {0}) TransmitError → Answer
+transmit_said (Ok _) = done
+transmit_said (Err transmit.BusOff) = bus_off
+transmit_said (Err transmit.TransmissionAborted) = transmission_aborted
+transmit_said (Err transmit.WouldBlock) = would_block
 
-abbrev pub poll_said : PollAnswer → Answer
-poll_said poll.BusOff = bus_off
-poll_said poll.TransmissionAborted = transmission_aborted
-poll_said poll.Pending = pending
-poll_said poll.Done = done
+-- a future without an answer is pending
+abbrev pub poll_said : Option (Result (Unit {0}) PollError) → Answer
+poll_said None = pending
+poll_said (Some (Ok _)) = done
+poll_said (Some (Err poll.BusOff)) = bus_off
+poll_said (Some (Err poll.TransmissionAborted)) = transmission_aborted
 
-abbrev pub receive_said : ReceiveAnswer → Answer
-receive_said receive.BusOff = bus_off
-receive_said receive.WouldBlock = would_block
-receive_said receive.Overrun = overrun
-receive_said receive.Received = done
+abbrev pub receive_said : Result (Unit {0}) ReceiveError → Answer
+receive_said (Ok _) = done
+receive_said (Err receive.BusOff) = bus_off
+receive_said (Err receive.WouldBlock) = would_block
+receive_said (Err receive.Overrun) = overrun
 
-abbrev pub transmission_said : Transmission → Answer × Action
+abbrev pub transmission_said : Decision TransmitError → Answer × Action
 transmission_said r = (transmit_said r.answer, command_said r.command)
 
 abbrev pub polling_said : Polling → Answer × Action × Bool
 polling_said r = (poll_said r.answer, command_said r.command, r.in_flight)
 
-abbrev pub reception_said : Reception → Answer × Action
+abbrev pub reception_said : Decision ReceiveError → Answer × Action
 reception_said r = (receive_said r.answer, command_said r.command)
