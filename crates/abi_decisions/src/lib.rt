@@ -10,7 +10,7 @@ ghost use Rattle.abi_decisions.specs.Numbers.{answer_number, action_number, deci
 ghost use Rattle.abi_decisions.specs.Commands.{with_transmit, with_receive};
 
 use abi_answers::Answer;
-use status_decisions::{Command, PollAnswer, ReceiveAnswer, TransmitAnswer};
+use status_decisions::{Command, PollError, ReceiveError, TransmitError};
 
 fn command_number(command: Command) -> u64
     ensures { (result ≡ action_number (command_said command)) × (result ≤ 3) }
@@ -24,36 +24,36 @@ fn command_number(command: Command) -> u64
 }
 
 // The command goes with the answer, so one look at the answer gives both numbers.
-fn transmit_number(answer: TransmitAnswer) -> u64
+fn transmit_number(answer: Result<(), TransmitError>) -> u64
     ensures { result ≡ decided (transmit_said answer, with_transmit (transmit_said answer)) }
 {
     match answer {
-        TransmitAnswer::Written => 0x200,
-        TransmitAnswer::WouldBlock => 1,
-        TransmitAnswer::BusOff => 3,
-        TransmitAnswer::TransmissionAborted => 0x104,
+        Ok(()) => 0x200,
+        Err(TransmitError::WouldBlock) => 1,
+        Err(TransmitError::BusOff) => 3,
+        Err(TransmitError::TransmissionAborted) => 0x104,
     }
 }
 
-fn poll_number(answer: PollAnswer) -> u64
+fn poll_number(answer: Option<Result<(), PollError>>) -> u64
     ensures { (result ≡ answer_number (poll_said answer)) × (result ≤ 5) }
 {
     match answer {
-        PollAnswer::Done => 0,
-        PollAnswer::Pending => 2,
-        PollAnswer::BusOff => 3,
-        PollAnswer::TransmissionAborted => 4,
+        Some(Ok(())) => 0,
+        None => 2,
+        Some(Err(PollError::BusOff)) => 3,
+        Some(Err(PollError::TransmissionAborted)) => 4,
     }
 }
 
-fn receive_number(answer: ReceiveAnswer) -> u64
+fn receive_number(answer: Result<(), ReceiveError>) -> u64
     ensures { result ≡ decided (receive_said answer, with_receive (receive_said answer)) }
 {
     match answer {
-        ReceiveAnswer::Received => 0x300,
-        ReceiveAnswer::WouldBlock => 1,
-        ReceiveAnswer::BusOff => 3,
-        ReceiveAnswer::Overrun => 5,
+        Ok(()) => 0x300,
+        Err(ReceiveError::WouldBlock) => 1,
+        Err(ReceiveError::BusOff) => 3,
+        Err(ReceiveError::Overrun) => 5,
     }
 }
 
