@@ -1,21 +1,18 @@
 -- What the constructors of identifiers answer, in the outline's numbers. An identifier is given by its number.
 -- Source: ISO 11898-1, base and extended format; the outline, "Modules" and refusal 1.
-use Rattle.std.specs.Prelude.{ℕ, ◌/◌, ◌^◌, Bool, true, cond, [], leb}
+use Rattle.std.specs.Prelude.{ℕ, ◌/◌, ◌^◌, Bool, true, cond, [], leb, Result}
 use Rattle.laws.specs.Said.{Said, refuses, gives}
-use Rattle.refusals.specs.Table.{refusal_said}
+use Rattle.refusals.specs.Table.{answer_said}
 use Rattle.identifiers.specs.Limits.{limit_of}
-use Rattle.identifiers.specs.declared.StandardMade.{StandardMade}
-use Rattle.identifiers.specs.declared.StandardMade.TheVariants as standard
-use Rattle.identifiers.specs.declared.ExtendedMade.{ExtendedMade}
-use Rattle.identifiers.specs.declared.ExtendedMade.TheVariants as extended
+use Rattle.refusals.specs.declared.Refusal.{Refusal}
+use Rattle.identifiers.specs.declared.StandardId.{StandardId}
+use Rattle.identifiers.specs.declared.ExtendedId.{ExtendedId}
 
-abbrev pub standard_said : StandardMade → Said ℕ
-standard_said (standard.Made id) = gives id.0
-standard_said (standard.Refused f) = refusal_said f
+abbrev pub standard_said : Result StandardId Refusal → Said ℕ
+standard_said = answer_said (λ id. id.0)
 
-abbrev pub extended_said : ExtendedMade → Said ℕ
-extended_said (extended.Made id) = gives id.0
-extended_said (extended.Refused f) = refusal_said f
+abbrev pub extended_said : Result ExtendedId Refusal → Said ℕ
+extended_said = answer_said (λ id. id.0)
 
 -- within its limit a value, above it refusal 1
 abbrev pub checked : Bool → ℕ → ℕ → Said ℕ

@@ -7,29 +7,17 @@ ghost use Rattle.identifiers.specs.Answers.{standard_said, extended_said, new_of
 
 use refusals::Refusal;
 
-#[derive(Clone, Copy)]
+#[derive(Clone, Copy, Debug, PartialEq, Eq)]
 pub struct StandardId(pub u16);
 
-#[derive(Clone, Copy)]
+#[derive(Clone, Copy, Debug, PartialEq, Eq)]
 pub struct ExtendedId(pub u32);
 
 // One or the other, and which.
-#[derive(Clone, Copy)]
+#[derive(Clone, Copy, Debug, PartialEq, Eq)]
 pub enum Id {
     Standard(StandardId),
     Extended(ExtendedId),
-}
-
-#[derive(Clone, Copy)]
-pub enum StandardMade {
-    Made(StandardId),
-    Refused(Refusal),
-}
-
-#[derive(Clone, Copy)]
-pub enum ExtendedMade {
-    Made(ExtendedId),
-    Refused(Refusal),
 }
 
 pub fn width(extended: bool) -> usize
@@ -51,14 +39,13 @@ pub fn limit(extended: bool) -> u32
 }
 
 impl StandardId {
-    pub fn new(raw: u16) -> StandardMade
+    pub fn new(raw: u16) -> Result<StandardId, Refusal>
         ensures { standard_said result ≡ new_of false raw }
     {
-        if raw <= 0x7FF {
-            StandardMade::Made(StandardId(raw))
-        } else {
-            StandardMade::Refused(Refusal::IdentifierAboveLimit)
+        if raw > 0x7FF {
+            return Err(Refusal::IdentifierAboveLimit);
         }
+        Ok(StandardId(raw))
     }
 
     pub fn as_raw(self) -> u16
@@ -69,33 +56,27 @@ impl StandardId {
 }
 
 impl ExtendedId {
-    pub fn new(raw: u32) -> ExtendedMade
+    pub fn new(raw: u32) -> Result<ExtendedId, Refusal>
         ensures { extended_said result ≡ new_of true raw }
     {
-        if raw <= 0x1FFF_FFFF {
-            ExtendedMade::Made(ExtendedId(raw))
-        } else {
-            ExtendedMade::Refused(Refusal::IdentifierAboveLimit)
+        if raw > 0x1FFF_FFFF {
+            return Err(Refusal::IdentifierAboveLimit);
         }
+        Ok(ExtendedId(raw))
     }
 
     pub fn as_raw(self) -> u32
         ensures { result ≡ self.0 }
     {
-        let raw = self.0;
-        raw
+        self.0
     }
 
     // The base identifier: ID-28 to ID-18.
-    pub fn standard_id(self) -> StandardMade
+    pub fn standard_id(self) -> Result<StandardId, Refusal>
         ensures { standard_said result ≡ base_of self.0 }
     {
-        let raw = self.as_raw();
-        if raw <= 0x1FFF_FFFF {
-            StandardMade::Made(StandardId((raw >> 18) as u16))
-        } else {
-            StandardMade::Refused(Refusal::IdentifierAboveLimit)
-        }
+        let id = ExtendedId::new(self.0)?;
+        Ok(StandardId((id.0 >> 18) as u16))
     }
 }
 

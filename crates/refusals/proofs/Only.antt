@@ -3,9 +3,10 @@ use Prim.Native.Nat.{ℕ, ◌-◌}
 use mathlib.Core.Path.{◌≡◌, refl}
 use mathlib.Core.List.{List, [], ◌∷◌}
 use lib.ListN.{get_or}
+use Rattle.std.proofs.Common.{Result, Ok, Err, ap}
 use Rattle.laws.specs.Said.{Said, refuses, gives}
 use Rattle.laws.proofs.Only.{only}
-use Rattle.refusals.specs.Table.{number_of, carried_of, refusal_said}
+use Rattle.refusals.specs.Table.{number_of, carried_of, refusal_said, answer_said}
 use Rattle.refusals.specs.declared.Refusal.{Refusal}
 use Rattle.refusals.specs.declared.Refusal.TheVariants.{IdentifierAboveLimit, InvalidDataLength, NonCompliantDlc, PatternLength, PatternByte, OutputTooShort, FilterKind, DrainRuns, NoDrainRuns, BrokenState, FileEnds, CountAboveLimit, BytesAfterEnd, WrongLength, EmptyList, EntryAboveLimit}
 
@@ -53,3 +54,17 @@ back (gives a) = none
 pub only-refusal : (A : Type 0) (f g : Refusal) → refusal_said {A = A} f ≡ refusal_said {A = A} g → f ≡ g
 unfolding back
 only-refusal A = only refusal_said back refusal-at
+
+-- an answer is told by what is told of its value, where that can be read back, or by its refusal
+module _ {A B : Type 0} (told : A → B) (read : B → A) (read-told : (a : A) → read (told a) ≡ a) where
+  answer_back : Said B → Result A Refusal
+  answer_back (gives b) = Ok (read b)
+  answer_back (refuses k n) = Err (refusal_at k n)
+
+  answer-back : (r : Result A Refusal) → answer_back (answer_said told r) ≡ r
+  unfolding answer_back
+  answer-back (Ok a) = ap Ok (read-told a)
+  answer-back (Err f) = ap Err (refusal-at f)
+
+  pub only-answer : (r s : Result A Refusal) → answer_said told r ≡ answer_said told s → r ≡ s
+  only-answer = only (answer_said told) answer_back answer-back

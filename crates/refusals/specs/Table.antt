@@ -1,7 +1,7 @@
 -- The refusals in the outline's numbers, and the numbers that each carries.
 -- Source: the outline, "Refusals by number"; request #102 for 15, and for the index that 1 carries; request #106 for the three numbers of 5.
-use Rattle.std.specs.Prelude.{ℕ, ◌+◌, ◌*◌, List, [], ◌∷◌}
-use Rattle.laws.specs.Said.{Said, refuses}
+use Rattle.std.specs.Prelude.{ℕ, ◌+◌, ◌*◌, List, [], ◌∷◌, Result, Ok, Err}
+use Rattle.laws.specs.Said.{Said, refuses, gives}
 use Rattle.refusals.specs.declared.Refusal.{Refusal}
 use Rattle.refusals.specs.declared.Refusal.TheVariants.{IdentifierAboveLimit, InvalidDataLength, NonCompliantDlc, PatternLength, PatternByte, OutputTooShort, FilterKind, DrainRuns, NoDrainRuns, BrokenState, FileEnds, CountAboveLimit, BytesAfterEnd, WrongLength, EmptyList, EntryAboveLimit}
 
@@ -43,6 +43,11 @@ carried_of (EntryAboveLimit index) = index ∷ []
 
 abbrev pub refusal_said : {A : Type 0} → Refusal → Said A
 refusal_said f = refuses (number_of f) (carried_of f)
+
+-- an answer by what is told of its value, or by its refusal
+abbrev pub answer_said : {A B : Type 0} → (A → B) → Result A Refusal → Said B
+answer_said told (Ok value) = gives (told value)
+answer_said told (Err f) = refusal_said f
 
 -- the numbers that a refusal carries in one number, for an answer that has room for one: 0 for none, and each further one in a byte of its own
 abbrev pub behind : ℕ → List ℕ → ℕ
