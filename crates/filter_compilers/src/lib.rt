@@ -6,15 +6,14 @@ ghost use Rattle.std.specs.Prelude.{◌≡◌, true, false, ◌∷◌, [], ◌+�
 ghost use Rattle.std.specs.Int.Bits.{bit_and, bit_or};
 ghost use Rattle.std.proofs.Math.Seq.{paste};
 ghost use Rattle.laws.specs.Said.{gives};
-ghost use Rattle.refusals.specs.Table.{refusal_said};
+ghost use Rattle.refusals.specs.Table.{refusal_said, answer_said};
 ghost use Rattle.filter_characters.specs.Characters.{all_characters};
 ghost use Rattle.filter_registers.specs.Registers.{registers_of};
-ghost use Rattle.filter_registers.specs.Answers.{compiling_said, compiled_said};
+ghost use Rattle.filter_registers.specs.Answers.{compiled_said};
 ghost use Rattle.filter_compilers.specs.Table.{single_standard, single_extended, dual_standard, dual_extended, run, joined};
 ghost use Rattle.filter_compilers.specs.Words.{word_of, code_of, mask_of};
 ghost use Rattle.filter_compilers.specs.Answers.{lengths_of, characters_of, answered, compile_of};
 
-use filter_registers::{Compiled, Compiling};
 use refusals::Refusal;
 
 // The widths of a filter's fields.
@@ -27,25 +26,32 @@ pub struct Widths {
     pub e: usize,
 }
 
-fn judge_lengths(widths: Widths, a: usize, b: usize, c: usize, d: usize, e: usize) -> Compiling
-    ensures { compiling_said result ≡ lengths_of 0 (widths.a ∷ widths.b ∷ widths.c ∷ widths.d ∷ widths.e ∷ []) (a ∷ b ∷ c ∷ d ∷ e ∷ []) (gives 8) }
+fn judge_lengths(
+    widths: Widths,
+    a: usize,
+    b: usize,
+    c: usize,
+    d: usize,
+    e: usize,
+) -> Result<(), Refusal>
+    ensures { answer_said (λ _. 8) result ≡ lengths_of 0 (widths.a ∷ widths.b ∷ widths.c ∷ widths.d ∷ widths.e ∷ []) (a ∷ b ∷ c ∷ d ∷ e ∷ []) (gives 8) }
 {
     if a != widths.a {
-        return Compiling::Refused(Refusal::PatternLength(0));
+        return Err(Refusal::PatternLength(0));
     }
     if b != widths.b {
-        return Compiling::Refused(Refusal::PatternLength(1));
+        return Err(Refusal::PatternLength(1));
     }
     if c != widths.c {
-        return Compiling::Refused(Refusal::PatternLength(2));
+        return Err(Refusal::PatternLength(2));
     }
     if d != widths.d {
-        return Compiling::Refused(Refusal::PatternLength(3));
+        return Err(Refusal::PatternLength(3));
     }
     if e != widths.e {
-        return Compiling::Refused(Refusal::PatternLength(4));
+        return Err(Refusal::PatternLength(4));
     }
-    Compiling::Made
+    Ok(())
 }
 
 // The row with one more run drawn: its last character stands at position `low`.
@@ -151,23 +157,35 @@ fn first_wrong(a: &[u8], b: &[u8], c: &[u8], d: &[u8], e: &[u8]) -> Refusal
 }
 
 // The answer for fields that are drawn in a row.
-fn compile(row: [u8; 32], a: &[u8], b: &[u8], c: &[u8], d: &[u8], e: &[u8]) -> Compiled
+fn compile(
+    row: [u8; 32],
+    a: &[u8],
+    b: &[u8],
+    c: &[u8],
+    d: &[u8],
+    e: &[u8],
+) -> Result<[u8; 8], Refusal>
     requires { (length a.now + length b.now + length c.now + length d.now + length e.now ≤ 32)
         × (all_characters row ≡ all_characters (joined (a.now ∷ b.now ∷ c.now ∷ d.now ∷ e.now ∷ []))) }
     ensures { compiled_said result ≡ answered (characters_of 0 (a.now ∷ b.now ∷ c.now ∷ d.now ∷ e.now ∷ []))
         (registers_of (code_of (run 0 32) row) (mask_of (run 0 32) row)) }
 {
     if !filter_characters::all_known(&row) {
-        return filter_registers::refused(first_wrong(a, b, c, d, e));
+        return Err(first_wrong(a, b, c, d, e));
     }
     let both = read(row);
-    filter_registers::made(
+    Ok(filter_registers::made(
         (both % 0x1_0000_0000) as u32,
         0xFFFF_FFFF - (both / 0x1_0000_0000) as u32,
-    )
+    ))
 }
 
-pub fn single_standard(id: &[u8], rtr: &[u8], first: &[u8], second: &[u8]) -> Compiled
+pub fn single_standard(
+    id: &[u8],
+    rtr: &[u8],
+    first: &[u8],
+    second: &[u8],
+) -> Result<[u8; 8], Refusal>
     ensures { compiled_said result ≡ compile_of single_standard (id.now ∷ rtr.now ∷ first.now ∷ second.now ∷ []) }
 {
     let widths = Widths {
@@ -177,18 +195,14 @@ pub fn single_standard(id: &[u8], rtr: &[u8], first: &[u8], second: &[u8]) -> Co
         d: 8,
         e: 0,
     };
-    match judge_lengths(widths, id.len(), rtr.len(), first.len(), second.len(), 0) {
-        Compiling::Refused(refusal) => filter_registers::refused(refusal),
-        Compiling::Made => {
-            // identifier 31 to 21, RTR 20, data bytes 15 to 8 and 7 to 0
-            let identified = drawn(drawn([b'x'; 32], 21, id), 20, rtr);
-            let row = drawn(drawn(identified, 8, first), 0, second);
-            compile(row, id, rtr, first, second, b"")
-        }
-    }
+    judge_lengths(widths, id.len(), rtr.len(), first.len(), second.len(), 0)?;
+    // identifier 31 to 21, RTR 20, data bytes 15 to 8 and 7 to 0
+    let identified = drawn(drawn([b'x'; 32], 21, id), 20, rtr);
+    let row = drawn(drawn(identified, 8, first), 0, second);
+    compile(row, id, rtr, first, second, b"")
 }
 
-pub fn single_extended(id: &[u8], rtr: &[u8]) -> Compiled
+pub fn single_extended(id: &[u8], rtr: &[u8]) -> Result<[u8; 8], Refusal>
     ensures { compiled_said result ≡ compile_of single_extended (id.now ∷ rtr.now ∷ []) }
 {
     let widths = Widths {
@@ -198,14 +212,10 @@ pub fn single_extended(id: &[u8], rtr: &[u8]) -> Compiled
         d: 0,
         e: 0,
     };
-    match judge_lengths(widths, id.len(), rtr.len(), 0, 0, 0) {
-        Compiling::Refused(refusal) => filter_registers::refused(refusal),
-        Compiling::Made => {
-            // identifier 31 to 3, RTR 2
-            let row = drawn(drawn([b'x'; 32], 3, id), 2, rtr);
-            compile(row, id, rtr, b"", b"", b"")
-        }
-    }
+    judge_lengths(widths, id.len(), rtr.len(), 0, 0, 0)?;
+    // identifier 31 to 3, RTR 2
+    let row = drawn(drawn([b'x'; 32], 3, id), 2, rtr);
+    compile(row, id, rtr, b"", b"", b"")
 }
 
 pub fn dual_standard(
@@ -214,7 +224,7 @@ pub fn dual_standard(
     first_payload: &[u8],
     second_id: &[u8],
     second_rtr: &[u8],
-) -> Compiled
+) -> Result<[u8; 8], Refusal>
     ensures { compiled_said result ≡ compile_of dual_standard (first_id.now ∷ first_rtr.now ∷ first_payload.now ∷ second_id.now ∷ second_rtr.now ∷ []) }
 {
     let widths = Widths {
@@ -224,34 +234,30 @@ pub fn dual_standard(
         d: 11,
         e: 1,
     };
-    match judge_lengths(
+    judge_lengths(
         widths,
         first_id.len(),
         first_rtr.len(),
         first_payload.len(),
         second_id.len(),
         second_rtr.len(),
-    ) {
-        Compiling::Refused(refusal) => filter_registers::refused(refusal),
-        Compiling::Made => {
-            // identifier 31 to 21, RTR 20, high nibble 19 to 16; identifier 15 to 5, RTR 4, low nibble 3 to 0
-            let identified = drawn(drawn([b'x'; 32], 21, first_id), 20, first_rtr);
-            let first = drawn(identified, 16, &first_payload[..4]);
-            let second = drawn(drawn(first, 5, second_id), 4, second_rtr);
-            let row = drawn(second, 0, &first_payload[4..]);
-            compile(
-                row,
-                first_id,
-                first_rtr,
-                first_payload,
-                second_id,
-                second_rtr,
-            )
-        }
-    }
+    )?;
+    // identifier 31 to 21, RTR 20, high nibble 19 to 16; identifier 15 to 5, RTR 4, low nibble 3 to 0
+    let identified = drawn(drawn([b'x'; 32], 21, first_id), 20, first_rtr);
+    let first = drawn(identified, 16, &first_payload[..4]);
+    let second = drawn(drawn(first, 5, second_id), 4, second_rtr);
+    let row = drawn(second, 0, &first_payload[4..]);
+    compile(
+        row,
+        first_id,
+        first_rtr,
+        first_payload,
+        second_id,
+        second_rtr,
+    )
 }
 
-pub fn dual_extended(first: &[u8], second: &[u8]) -> Compiled
+pub fn dual_extended(first: &[u8], second: &[u8]) -> Result<[u8; 8], Refusal>
     ensures { compiled_said result ≡ compile_of dual_extended (first.now ∷ second.now ∷ []) }
 {
     let widths = Widths {
@@ -261,12 +267,8 @@ pub fn dual_extended(first: &[u8], second: &[u8]) -> Compiled
         d: 0,
         e: 0,
     };
-    match judge_lengths(widths, first.len(), second.len(), 0, 0, 0) {
-        Compiling::Refused(refusal) => filter_registers::refused(refusal),
-        Compiling::Made => {
-            // 31 to 16, 15 to 0
-            let row = drawn(drawn([b'x'; 32], 16, first), 0, second);
-            compile(row, first, second, b"", b"", b"")
-        }
-    }
+    judge_lengths(widths, first.len(), second.len(), 0, 0, 0)?;
+    // 31 to 16, 15 to 0
+    let row = drawn(drawn([b'x'; 32], 16, first), 0, second);
+    compile(row, first, second, b"", b"", b"")
 }

@@ -11,4 +11,4 @@ returns c =
     let start = c in
     let args = start.args in
     let all = sym start.requires.1 ∙ sym c.all_known.ensures ∙ c.if-not-all_known.false in
-    c.made.ensures ∙ answered-made _ _ _ (good-said 0 (args.a.now ∷ args.b.now ∷ args.c.now ∷ args.d.now ∷ args.e.now ∷ []) all) (ap₂ registers_of c.read-both.ensures.0 c.read-both.ensures.1)
+    answered-made _ _ _ (good-said 0 (args.a.now ∷ args.b.now ∷ args.c.now ∷ args.d.now ∷ args.e.now ∷ []) all) (c.made.ensures ∙ ap₂ registers_of c.read-both.ensures.0 c.read-both.ensures.1)

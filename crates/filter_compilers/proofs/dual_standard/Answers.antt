@@ -3,6 +3,7 @@ use mathlib.Core.Path.{sym, ◌∙◌}
 use mathlib.Core.List.{[], ◌∷◌}
 use lib.ListN.{length}
 use native.Mathlib.Omega.{arith}
+use Rattle.std.proofs.lemmas.Result.{err_from_is_err_and}
 use Rattle.laws.proofs.Laid.{rest-is}
 use Rattle.filter_compilers.specs.Table.{dual_standard, fields_of}
 use Rattle.filter_compilers.specs.Answers.{compile_of}
@@ -14,27 +15,28 @@ use Rattle.filter_compilers.proofs.dual_standard.Goals as goal
 pub compile-requires : goal.compile-requires
 compile-requires c =
     let args = c.args in
-    let made = sym c.in-Made.ensures in (
+    let made = sym c.in_ok-judge_lengths.ensures in (
       omega (arith, lengths-five 11 1 8 11 1 (length args.first_id.now) (length args.first_rtr.now) (length args.first_payload.now) (length args.second_id.now) (length args.second_rtr.now) made),
       (dual-standard args.first_id.now args.first_rtr.now args.first_payload.now args.second_id.now args.second_rtr.now _ _ _ _ _ _ _ made
           c.drawn.ensures c.drawn-identified.ensures
-          c.drawn-first.ensures c.drawn-in-Made.ensures
+          c.drawn-first.ensures c.drawn-2.ensures
           c.drawn-second.ensures c.drawn-row.ensures (rest-is 4 args.first_payload.now)).good,
     )
 
-pub returns-in-Refused : goal.returns-in-Refused
+pub returns-in_err-judge_lengths : goal.returns-in_err-judge_lengths
 unfolding compile_of fields_of
-returns-in-Refused c =
+returns-in_err-judge_lengths c =
     let args = c.args in
-    c.refused.ensures ∙ length-refused 11 1 8 11 1 args.first_id.now args.first_rtr.now args.first_payload.now args.second_id.now args.second_rtr.now _ _ _
-    (sym c.in-Refused.ensures)
+    let p = err_from_is_err_and c.from_residual.result c.from_residual.ensures.1 in
+    rw (p.1, p.2) (length-refused 11 1 8 11 1 args.first_id.now args.first_rtr.now args.first_payload.now args.second_id.now args.second_rtr.now _ _ _
+    (sym c.in_err-judge_lengths.ensures))
 
-pub returns-in-Made : goal.returns-in-Made
-returns-in-Made c =
+pub returns : goal.returns
+returns c =
     let args = c.args in
-    let made = sym c.in-Made.ensures in
+    let made = sym c.in_ok-judge_lengths.ensures in
     c.compile.ensures ∙ all_made dual_standard (args.first_id.now ∷ args.first_rtr.now ∷ args.first_payload.now ∷ args.second_id.now ∷ args.second_rtr.now ∷ []) _
     (dual-standard args.first_id.now args.first_rtr.now args.first_payload.now args.second_id.now args.second_rtr.now _ _ _ _ _ _ _ made
     c.drawn.ensures c.drawn-identified.ensures
-    c.drawn-first.ensures c.drawn-in-Made.ensures
+    c.drawn-first.ensures c.drawn-2.ensures
     c.drawn-second.ensures c.drawn-row.ensures (rest-is 4 args.first_payload.now))

@@ -3,6 +3,7 @@ use mathlib.Core.Path.{sym, ◌∙◌}
 use mathlib.Core.List.{[], ◌∷◌}
 use lib.ListN.{length}
 use native.Mathlib.Omega.{arith}
+use Rattle.std.proofs.lemmas.Result.{err_from_is_err_and}
 use Rattle.filter_characters.specs.Characters.{bad_at}
 use Rattle.filter_compilers.specs.Table.{single_extended, fields_of}
 use Rattle.filter_compilers.specs.Answers.{compile_of}
@@ -14,24 +15,25 @@ use Rattle.filter_compilers.proofs.single_extended.Goals as goal
 pub compile-requires : goal.compile-requires
 compile-requires c =
     let args = c.args in
-    let made = sym c.in-Made.ensures in (
+    let made = sym c.in_ok-judge_lengths.ensures in (
       omega (arith, lengths-five 29 1 0 0 0 (length args.id.now) (length args.rtr.now) 0 0 0 made),
       (single-extended args.id.now args.rtr.now _ _ made
           c.drawn.ensures c.drawn-row.ensures).good,
     )
 
-pub returns-in-Refused : goal.returns-in-Refused
+pub returns-in_err-judge_lengths : goal.returns-in_err-judge_lengths
 unfolding compile_of fields_of bad_at
-returns-in-Refused c =
+returns-in_err-judge_lengths c =
     let args = c.args in
-    c.refused.ensures ∙ length-refused 29 1 0 0 0 args.id.now args.rtr.now [] [] [] _ _ _
-    (sym c.in-Refused.ensures)
+    let p = err_from_is_err_and c.from_residual.result c.from_residual.ensures.1 in
+    rw (p.1, p.2) (length-refused 29 1 0 0 0 args.id.now args.rtr.now [] [] [] _ _ _
+    (sym c.in_err-judge_lengths.ensures))
 
-pub returns-in-Made : goal.returns-in-Made
+pub returns : goal.returns
 unfolding bad_at
-returns-in-Made c =
+returns c =
     let args = c.args in
-    let made = sym c.in-Made.ensures in
+    let made = sym c.in_ok-judge_lengths.ensures in
     c.compile.ensures ∙ all_made single_extended (args.id.now ∷ args.rtr.now ∷ []) _
     (single-extended args.id.now args.rtr.now _ _ made
     c.drawn.ensures c.drawn-row.ensures)
