@@ -19,11 +19,11 @@ pub code-mask-refused : (filter : Filter) (codes masks : List ℕ) → limits_ke
 unfolding code_mask_of
 code-mask-refused filter codes masks e = rw e
 
-pub code-mask-made : (filter : Filter) (codes masks : List ℕ) (code mask : ℕ) → limits_kept filter codes masks ≡ true
-    → code ≡ laid_of (fields_of filter) codes → mask ≡ laid_of (fields_of filter) masks
-    → ◌≡◌ {A = Said ℕ × List ℕ} (gives 8, registers_of code mask) (code_mask_of filter codes masks)
+pub code-mask-made : (filter : Filter) (codes masks registers : List ℕ) (code mask : ℕ) → limits_kept filter codes masks ≡ true
+    → registers ≡ registers_of code mask → code ≡ laid_of (fields_of filter) codes → mask ≡ laid_of (fields_of filter) masks
+    → ◌≡◌ {A = Said ℕ × List ℕ} (gives 8, registers) (code_mask_of filter codes masks)
 unfolding code_mask_of
-code-mask-made filter codes masks code mask e c m = rw (e, c, m)
+code-mask-made filter codes masks registers code mask e r c m = rw (e, r, c, m)
 
 -- ---- all codes and then all masks, or identifier by identifier as the code asks: the same tests
 one-both : (code mask : Bool) → ((code && true) && (mask && true)) ≡ (code && mask)

@@ -10,7 +10,6 @@ ghost use Rattle.filter_types.specs.Words.{laid_of};
 ghost use Rattle.filter_types.specs.Answers.{code_mask_of};
 ghost use Rattle.filter_types.specs.Within.{both_within};
 
-use filter_registers::Compiled;
 use identifiers::{ExtendedId, Id, StandardId};
 use refusals::Refusal;
 
@@ -91,7 +90,7 @@ pub struct DualStandardFilter;
 pub struct DualExtendedFilter;
 
 impl SingleStandardFilter {
-    pub fn new(id: &[u8], rtr: &[u8], first: &[u8], second: &[u8]) -> Compiled
+    pub fn new(id: &[u8], rtr: &[u8], first: &[u8], second: &[u8]) -> Result<[u8; 8], Refusal>
         ensures { compiled_said result ≡ compile_of single_standard (id.now ∷ rtr.now ∷ first.now ∷ second.now ∷ []) }
     {
         filter_compilers::single_standard(id, rtr, first, second)
@@ -106,22 +105,22 @@ impl SingleStandardFilter {
         second_code: u8,
         first_mask: u8,
         second_mask: u8,
-    ) -> Compiled
+    ) -> Result<[u8; 8], Refusal>
         ensures { compiled_said result ≡ code_mask_of single_standard
             (id_code.0 ∷ bit rtr_code ∷ first_code ∷ second_code ∷ []) (id_mask.0 ∷ bit rtr_mask ∷ first_mask ∷ second_mask ∷ []) }
     {
         if !standard_within(id_code, id_mask) {
-            return filter_registers::refused(Refusal::IdentifierAboveLimit);
+            return Err(Refusal::IdentifierAboveLimit);
         }
-        filter_registers::made(
+        Ok(filter_registers::made(
             single_standard_word(id_code, rtr_code, first_code, second_code),
             single_standard_word(id_mask, rtr_mask, first_mask, second_mask),
-        )
+        ))
     }
 }
 
 impl SingleExtendedFilter {
-    pub fn new(id: &[u8], rtr: &[u8]) -> Compiled
+    pub fn new(id: &[u8], rtr: &[u8]) -> Result<[u8; 8], Refusal>
         ensures { compiled_said result ≡ compile_of single_extended (id.now ∷ rtr.now ∷ []) }
     {
         filter_compilers::single_extended(id, rtr)
@@ -132,17 +131,17 @@ impl SingleExtendedFilter {
         id_mask: ExtendedId,
         rtr_code: bool,
         rtr_mask: bool,
-    ) -> Compiled
+    ) -> Result<[u8; 8], Refusal>
         ensures { compiled_said result ≡ code_mask_of single_extended
             (id_code.0 ∷ bit rtr_code ∷ []) (id_mask.0 ∷ bit rtr_mask ∷ []) }
     {
         if !extended_within(id_code, id_mask) {
-            return filter_registers::refused(Refusal::IdentifierAboveLimit);
+            return Err(Refusal::IdentifierAboveLimit);
         }
-        filter_registers::made(
+        Ok(filter_registers::made(
             single_extended_word(id_code, rtr_code),
             single_extended_word(id_mask, rtr_mask),
-        )
+        ))
     }
 }
 
@@ -153,7 +152,7 @@ impl DualStandardFilter {
         first_payload: &[u8],
         second_id: &[u8],
         second_rtr: &[u8],
-    ) -> Compiled
+    ) -> Result<[u8; 8], Refusal>
         ensures { compiled_said result ≡ compile_of dual_standard (first_id.now ∷ first_rtr.now ∷ first_payload.now ∷ second_id.now ∷ second_rtr.now ∷ []) }
     {
         filter_compilers::dual_standard(first_id, first_rtr, first_payload, second_id, second_rtr)
@@ -170,18 +169,18 @@ impl DualStandardFilter {
         second_id_mask: StandardId,
         second_rtr_code: bool,
         second_rtr_mask: bool,
-    ) -> Compiled
+    ) -> Result<[u8; 8], Refusal>
         ensures { compiled_said result ≡ code_mask_of dual_standard
             (first_id_code.0 ∷ bit first_rtr_code ∷ first_payload_code ∷ second_id_code.0 ∷ bit second_rtr_code ∷ [])
             (first_id_mask.0 ∷ bit first_rtr_mask ∷ first_payload_mask ∷ second_id_mask.0 ∷ bit second_rtr_mask ∷ []) }
     {
         if !standard_within(first_id_code, first_id_mask) {
-            return filter_registers::refused(Refusal::IdentifierAboveLimit);
+            return Err(Refusal::IdentifierAboveLimit);
         }
         if !standard_within(second_id_code, second_id_mask) {
-            return filter_registers::refused(Refusal::IdentifierAboveLimit);
+            return Err(Refusal::IdentifierAboveLimit);
         }
-        filter_registers::made(
+        Ok(filter_registers::made(
             dual_standard_word(
                 first_id_code,
                 first_rtr_code,
@@ -196,12 +195,12 @@ impl DualStandardFilter {
                 second_id_mask,
                 second_rtr_mask,
             ),
-        )
+        ))
     }
 }
 
 impl DualExtendedFilter {
-    pub fn new(first: &[u8], second: &[u8]) -> Compiled
+    pub fn new(first: &[u8], second: &[u8]) -> Result<[u8; 8], Refusal>
         ensures { compiled_said result ≡ compile_of dual_extended (first.now ∷ second.now ∷ []) }
     {
         filter_compilers::dual_extended(first, second)
@@ -212,12 +211,12 @@ impl DualExtendedFilter {
         second_code: u16,
         first_mask: u16,
         second_mask: u16,
-    ) -> Compiled
+    ) -> Result<[u8; 8], Refusal>
         ensures { compiled_said result ≡ code_mask_of dual_extended (first_code ∷ second_code ∷ []) (first_mask ∷ second_mask ∷ []) }
     {
-        filter_registers::made(
+        Ok(filter_registers::made(
             dual_extended_word(first_code, second_code),
             dual_extended_word(first_mask, second_mask),
-        )
+        ))
     }
 }

@@ -10,16 +10,14 @@ pub returns-then-not-standard_within : goal.returns-then-not-standard_within
 returns-then-not-standard_within c =
     let start = c.args in
     let above = sym c.standard_within.ensures ∙ c.if-not-standard_within.true in
-    c.refused.ensures
-    ∙ code-mask-refused _ _ _
+    code-mask-refused _ _ _
     (two-kept false start.first_id_code.0 start.first_id_mask.0 start.second_id_code.0 start.second_id_mask.0 ∙ and-first-no _ _ above)
 
 pub returns-then-not-standard_within-2 : goal.returns-then-not-standard_within-2
 returns-then-not-standard_within-2 c =
     let start = c.args in
     let above = sym c.standard_within-2.ensures ∙ c.if-not-standard_within-2.true in
-    c.refused-then-not-standard_within-2.ensures
-    ∙ code-mask-refused _ _ _
+    code-mask-refused _ _ _
     (two-kept false start.first_id_code.0 start.first_id_mask.0 start.second_id_code.0 start.second_id_mask.0
     ∙ and-last-no (both_within false start.first_id_code.0 start.first_id_mask.0) _ above)
 
@@ -28,7 +26,6 @@ returns c =
     let start = c.args in
     let one = sym c.standard_within.ensures ∙ c.if-not-standard_within.false in
     let two = sym c.standard_within-2.ensures ∙ c.if-not-standard_within-2.false in
-    c.made.ensures
-    ∙ code-mask-made _ _ _ _ _
+    code-mask-made _ _ _ _ _ _
     (two-kept false start.first_id_code.0 start.first_id_mask.0 start.second_id_code.0 start.second_id_mask.0 ∙ and_yes _ _ one two)
-    c.dual_standard_word.ensures c.dual_standard_word-2.ensures
+    c.made.ensures c.dual_standard_word.ensures c.dual_standard_word-2.ensures

@@ -7,11 +7,10 @@ use Rattle.filter_types.proofs.SingleExtendedFilter.new_from_code_mask.Goals as 
 pub returns-then-not-extended_within : goal.returns-then-not-extended_within
 returns-then-not-extended_within c =
     let above = sym c.extended_within.ensures ∙ c.if-not-extended_within.true in
-    c.refused.ensures ∙ code-mask-refused _ _ _ (one_kept true c.args.id_code.0 c.args.id_mask.0 ∙ above)
+    code-mask-refused _ _ _ (one_kept true c.args.id_code.0 c.args.id_mask.0 ∙ above)
 
 pub returns : goal.returns
 returns c =
     let within = sym c.extended_within.ensures ∙ c.if-not-extended_within.false in
-    c.made.ensures
-    ∙ code-mask-made _ _ _ _ _ (one_kept true c.args.id_code.0 c.args.id_mask.0 ∙ within)
-    c.single_extended_word.ensures c.single_extended_word-2.ensures
+    code-mask-made _ _ _ _ _ _ (one_kept true c.args.id_code.0 c.args.id_mask.0 ∙ within)
+    c.made.ensures c.single_extended_word.ensures c.single_extended_word-2.ensures
