@@ -1,6 +1,8 @@
 // The controller's FIFO by value: a ring of entries, each whole or an overrun mark, and their weight.
 #![tactic(auto)]
 
+mod byte;
+
 ghost use Rattle.std.specs.Prelude.{◌≡◌, ◌-◌, ◌<◌, ◌≤◌};
 ghost use Rattle.box_fifo.specs.Ring.{entry_limit, weight_of, sum_of, fifo_ok, mark_entry, empty_fifo, front_of, pushed, released, arrive_of, arrived_said};
 

@@ -1,6 +1,8 @@
 // A record of the receive queue: a frame or an error; the blank one, and whether two are the same.
 #![tactic(auto)]
 
+mod byte;
+
 ghost use Rattle.std.specs.Prelude.{◌≡◌};
 ghost use Rattle.box_records.specs.Blank.{blank};
 ghost use Rattle.box_records.specs.Same.{same_bytes, same_kind, same_record};

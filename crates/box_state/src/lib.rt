@@ -1,6 +1,8 @@
 // The box by value: its rules, arrivals and takes.
 #![tactic(auto)]
 
+mod byte;
+
 ghost use Rattle.std.specs.Prelude.{◌≡◌};
 ghost use Rattle.box_state.specs.Rules.{record_of, front_ready, copy_ready, release_ready, phase_ok, box_ok};
 ghost use Rattle.box_state.specs.Calls.{fresh_box, arrived_said, arrive_of, taken_said, take_of};
