@@ -1,12 +1,11 @@
 -- What reading a file answers: its fields from left to right, each looked for and then judged, and then that nothing follows.
 -- Source: the outline, "Frame file and program" and refusals 7, 11, 12, 13.
-use Rattle.std.specs.Prelude.{ℕ, zero, suc, ◌+◌, cond, List, [], ◌∷◌, ltb, length, get_or}
+use Rattle.std.specs.Prelude.{ℕ, zero, suc, ◌+◌, cond, List, [], ◌∷◌, ltb, length, get_or, Result, Ok, Err}
 use Rattle.laws.specs.Said.{Said, refuses, gives}
 use Rattle.refusals.specs.Table.{refusal_said}
+use Rattle.refusals.specs.declared.Refusal.{Refusal}
 use Rattle.file_reading.specs.Format.{filter_limit, frame_limit, filter_bytes, frame_bytes, count_at}
 use Rattle.file_reading.specs.declared.Sections.{Sections}
-use Rattle.file_reading.specs.declared.Reading.{Reading}
-use Rattle.file_reading.specs.declared.Reading.TheVariants.{Read, Refused}
 
 -- so many filters from 1 on, and so many frames from a place on
 abbrev pub sections_with : ℕ → ℕ → ℕ → Sections
@@ -42,6 +41,11 @@ read_of s =
     (cond (ltb filter_limit (get_or s 0 0)) (refuses 12 (0 ∷ []))
     (filters_from s (get_or s 0 0) (get_or s 0 0) 1))
 
-abbrev pub reading_said : Reading → Said Sections
-reading_said (Read sections) = gives sections
-reading_said (Refused f) = refusal_said f
+abbrev pub reading_said : Result Sections Refusal → Said Sections
+reading_said (Ok sections) = gives sections
+reading_said (Err f) = refusal_said f
+
+-- a step, and what follows it
+abbrev pub before : Result Unit Refusal → Said Sections → Said Sections
+before (Ok done) next = next
+before (Err f) next = refusal_said f

@@ -1,9 +1,10 @@
 // The frame file's reader: it answers both counts and where each section starts.
 #![tactic(auto)]
 
-ghost use Rattle.std.specs.Prelude.{◌≡◌, ◌<◌, ◌≤◌};
-ghost use Rattle.file_reading.specs.Format.{filter_limit, frame_limit};
-ghost use Rattle.file_reading.specs.Reader.{sections_with, frames_from, frames_at, filters_from, read_of, reading_said};
+ghost use Rattle.std.specs.Prelude.{◌≡◌, ◌+◌, ◌<◌, ◌≤◌, IfOk, IfErr};
+ghost use Rattle.laws.specs.Said.{gives};
+ghost use Rattle.file_reading.specs.Format.{filter_limit, frame_limit, filters_end};
+ghost use Rattle.file_reading.specs.Reader.{before, frames_from, frames_at, filters_from, read_of, reading_said};
 
 use refusals::Refusal;
 
@@ -17,7 +18,7 @@ pub const FILTER_BYTES: usize = 9;
 pub const FRAME_BYTES: usize = 13;
 
 // How many filters and frames there are, and where the first of each stands.
-#[derive(Clone, Copy)]
+#[derive(Clone, Copy, Debug, PartialEq, Eq)]
 pub struct Sections {
     pub filters: usize,
     pub filters_start: usize,
@@ -25,94 +26,73 @@ pub struct Sections {
     pub frames_start: usize,
 }
 
-#[derive(Clone, Copy)]
-pub enum Reading {
-    Read(Sections),
-    Refused(Refusal),
+// A field of so many bytes at a place.
+fn field(len: usize, at: usize, bytes: usize) -> Result<(), Refusal>
+    requires { (at < 60000) × (bytes < 16) }
+    ensures ok { IfOk result (λ _. at + bytes ≤ len) }
+    ensures err { IfErr result (λ f. (f ≡ Refusal.FileEnds at) × (len < at + bytes)) }
+{
+    if len < at + bytes {
+        return Err(Refusal::FileEnds(at));
+    }
+    Ok(())
 }
 
-fn wide(byte: u8) -> usize
-    ensures { (result ≡ byte) × (result < 256) }
+// Each filter's kind and registers.
+fn read_filters(file: &[u8], filters: usize) -> Result<(), Refusal>
+    requires { filters ≤ filter_limit }
+    ensures { before result (frames_at file.now filters (filters_end filters))
+        ≡ filters_from file.now filters filters 1 }
 {
-    byte as usize
+    let len = file.len();
+    for i in 0..filters {
+        let at = 1 + FILTER_BYTES * i;
+        field(len, at, 1)?;
+        if file[at] > 1 {
+            return Err(Refusal::FilterKind(at));
+        }
+        field(len, at + 1, FILTER_BYTES - 1)?;
+    }
+    Ok(())
 }
 
 // The frames, and nothing after them.
-fn read_frames(len: usize, filters: usize, frames: usize, start: usize) -> Reading
+fn read_frames(len: usize, frames: usize, start: usize) -> Result<(), Refusal>
     requires { (frames ≤ frame_limit) × (start < 256) }
-    ensures { reading_said result ≡ frames_from len (sections_with filters frames start) frames start }
+    ensures { (sections : _) → before result (gives sections) ≡ frames_from len sections frames start }
 {
-    let mut left = frames;
-    let mut at = start;
-    while left > 0 {
-        if len < at + FRAME_BYTES {
-            return Reading::Refused(Refusal::FileEnds(at));
-        }
-        at += FRAME_BYTES;
-        left -= 1;
+    for i in 0..frames {
+        field(len, start + FRAME_BYTES * i, FRAME_BYTES)?;
     }
-    if len > at {
-        return Reading::Refused(Refusal::BytesAfterEnd(at));
+    let end = start + FRAME_BYTES * frames;
+    if len > end {
+        return Err(Refusal::BytesAfterEnd(end));
     }
-    Reading::Read(Sections {
+    Ok(())
+}
+
+pub fn read_file(file: &[u8]) -> Result<Sections, Refusal>
+    ensures { reading_said result ≡ read_of file.now }
+{
+    let len = file.len();
+    field(len, 0, 1)?;
+    let filters = usize::from(file[0]);
+    if filters > FILTER_LIMIT {
+        return Err(Refusal::CountAboveLimit(0));
+    }
+    read_filters(file, filters)?;
+    let at = 1 + FILTER_BYTES * filters;
+    field(len, at, 2)?;
+    let frames = usize::from(file[at]) * 256 + usize::from(file[at + 1]);
+    if frames > FRAME_LIMIT {
+        return Err(Refusal::CountAboveLimit(at));
+    }
+    let frames_start = at + 2;
+    read_frames(len, frames, frames_start)?;
+    Ok(Sections {
         filters,
         filters_start: 1,
         frames,
-        frames_start: start,
+        frames_start,
     })
-}
-
-// The frame count, and the frames.
-fn read_second(file: &[u8], filters: usize, at: usize) -> Reading
-    requires { at < 250 }
-    ensures { reading_said result ≡ frames_at file.now filters at }
-{
-    let len = file.len();
-    if len < at + 2 {
-        return Reading::Refused(Refusal::FileEnds(at));
-    }
-    let high = wide(file[at]);
-    let low = wide(file[at + 1]);
-    let frames = high * 256 + low;
-    if frames > FRAME_LIMIT {
-        return Reading::Refused(Refusal::CountAboveLimit(at));
-    }
-    read_frames(len, filters, frames, at + 2)
-}
-
-// The filters, and all after them.
-fn read_first(file: &[u8], filters: usize) -> Reading
-    requires { filters ≤ filter_limit }
-    ensures { reading_said result ≡ filters_from file.now filters filters 1 }
-{
-    let len = file.len();
-    let mut left = filters;
-    let mut at: usize = 1;
-    while left > 0 {
-        if len < at + 1 {
-            return Reading::Refused(Refusal::FileEnds(at));
-        }
-        if file[at] > 1 {
-            return Reading::Refused(Refusal::FilterKind(at));
-        }
-        if len < at + FILTER_BYTES {
-            return Reading::Refused(Refusal::FileEnds(at + 1));
-        }
-        at += FILTER_BYTES;
-        left -= 1;
-    }
-    read_second(file, filters, at)
-}
-
-pub fn read_file(file: &[u8]) -> Reading
-    ensures { reading_said result ≡ read_of file.now }
-{
-    if file.len() < 1 {
-        return Reading::Refused(Refusal::FileEnds(0));
-    }
-    let filters = wide(file[0]);
-    if filters > FILTER_LIMIT {
-        return Reading::Refused(Refusal::CountAboveLimit(0));
-    }
-    read_first(file, filters)
 }
