@@ -2,7 +2,7 @@
 -- Source: the outline, "Frame file and program" and refusals 7, 11, 12, 13.
 use Rattle.std.specs.Prelude.{ℕ, zero, suc, ◌+◌, cond, List, [], ◌∷◌, ltb, length, get_or, Result, Ok, Err}
 use Rattle.laws.specs.Said.{Said, refuses, gives}
-use Rattle.refusals.specs.Table.{refusal_said}
+use Rattle.refusals.specs.Table.{refusal_said, answer_said}
 use Rattle.refusals.specs.declared.Refusal.{Refusal}
 use Rattle.file_reading.specs.Format.{filter_limit, frame_limit, filter_bytes, frame_bytes, count_at}
 use Rattle.file_reading.specs.declared.Sections.{Sections}
@@ -42,8 +42,7 @@ read_of s =
     (filters_from s (get_or s 0 0) (get_or s 0 0) 1))
 
 abbrev pub reading_said : Result Sections Refusal → Said Sections
-reading_said (Ok sections) = gives sections
-reading_said (Err f) = refusal_said f
+reading_said = answer_said (λ sections. sections)
 
 -- a step, and what follows it
 abbrev pub before : Result Unit Refusal → Said Sections → Said Sections
