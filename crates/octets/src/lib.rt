@@ -8,23 +8,20 @@ ghost use Rattle.octets.specs.Part.{part_or_zeros};
 pub fn wide(byte: u8) -> u32
     ensures { (result ≡ byte) × (result < 256) }
 {
-    byte as u32
+    u32::from(byte)
 }
 
 pub fn one_bit(flag: bool) -> u8
     ensures { (result ≡ bit flag) × (result < 2) }
 {
-    if flag {
-        return 1;
-    }
-    0
+    u8::from(flag)
 }
 
 // The high byte first.
 pub fn word(a: u8, b: u8, c: u8, d: u8) -> u32
     ensures { (result ≡ pack (bytes 4) (a ∷ b ∷ c ∷ d ∷ [])) × (result < 2 ^ 32) }
 {
-    wide(a) * 0x100_0000 + (wide(b) * 0x1_0000 + (wide(c) * 0x100 + wide(d)))
+    u32::from_be_bytes([a, b, c, d])
 }
 
 pub fn low_byte(word: u32) -> u8
@@ -37,38 +34,17 @@ pub fn low_byte(word: u32) -> u8
 pub fn word_at(slice: &[u8], at: usize) -> u32
     ensures { (result ≡ pack (bytes 4) (part_or_zeros 4 at slice.now)) × (result < 2 ^ 32) }
 {
-    if at > slice.len() {
-        return 0;
-    }
-    if slice.len() - at < 4 {
-        return 0;
-    }
-    word(slice[at], slice[at + 1], slice[at + 2], slice[at + 3])
+    let bytes: [u8; 4] = array_at(slice, at);
+    word(bytes[0], bytes[1], bytes[2], bytes[3])
 }
 
-// Thirteen bytes from a place on; zeros where there are fewer.
-pub fn thirteen(bytes: &[u8], at: usize) -> [u8; 13]
-    ensures { result ≡ part_or_zeros 13 at bytes.now }
+// So many bytes from a place on; zeros where there are fewer.
+pub fn array_at<const N: usize>(bytes: &[u8], at: usize) -> [u8; N]
+    ensures { result ≡ part_or_zeros N at bytes.now }
 {
-    if at > bytes.len() {
-        return [0; 13];
+    let mut part = [0; N];
+    if at <= bytes.len() && N <= bytes.len() - at {
+        part.copy_from_slice(&bytes[at..at + N]);
     }
-    if bytes.len() - at < 13 {
-        return [0; 13];
-    }
-    [
-        bytes[at],
-        bytes[at + 1],
-        bytes[at + 2],
-        bytes[at + 3],
-        bytes[at + 4],
-        bytes[at + 5],
-        bytes[at + 6],
-        bytes[at + 7],
-        bytes[at + 8],
-        bytes[at + 9],
-        bytes[at + 10],
-        bytes[at + 11],
-        bytes[at + 12],
-    ]
+    part
 }
