@@ -10,12 +10,6 @@ ghost use Rattle.text.specs.Laying.{laying_said};
 
 use refusals::Refusal;
 
-#[derive(Clone, Copy)]
-pub enum Laying {
-    Laid(usize),
-    Refused(Refusal),
-}
-
 // No number has more digits.
 const MOST_DIGITS: usize = 20;
 
@@ -79,22 +73,19 @@ pub fn put_text(out: &mut [u8], at: usize, text: &[u8]) -> usize
     if out.len() - at < text.len() {
         return at;
     }
-    let mut i: usize = 0;
-    while i < text.len() {
-        out[at + i] = text[i];
-        i += 1;
-    }
-    at + i
+    let end = at + text.len();
+    out[at..end].copy_from_slice(text);
+    end
 }
 
 // A text, or any bytes, into the front of an output.
-pub fn lay(text: &[u8], out: &mut [u8]) -> Laying
+pub fn lay(text: &[u8], out: &mut [u8]) -> Result<usize, Refusal>
     ensures result_value { laying_said result ≡ laying text.now out.old }
     ensures out_after { out.new ≡ written (laying text.now out.old) text.now out.old }
 {
     let length = text.len();
     if put_text(out, 0, text) < length {
-        return Laying::Refused(Refusal::OutputTooShort(length));
+        return Err(Refusal::OutputTooShort(length));
     }
-    Laying::Laid(length)
+    Ok(length)
 }
