@@ -1,10 +1,8 @@
 -- What was read lies within the buffer.
 -- Source: the outline, "No input traps".
-use Rattle.std.specs.Prelude.{ℕ, List}
+use Rattle.std.specs.Prelude.{ℕ, List, Result, Ok, Err}
 use Rattle.io.specs.Counts.{IsPrefixLen}
-use Rattle.standard_input.specs.declared.Input.{Input}
-use Rattle.standard_input.specs.declared.Input.TheVariants.{Read, Failed}
 
-abbrev pub Within : Input → List ℕ → Type 0
-Within (Read n) buffer = IsPrefixLen n buffer
-Within Failed buffer = Unit {0}
+abbrev pub Within : {E : Type 0} → Result ℕ E → List ℕ → Type 0
+Within (Ok n) buffer = IsPrefixLen n buffer
+Within (Err _) buffer = Unit {0}
