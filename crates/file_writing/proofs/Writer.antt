@@ -4,16 +4,14 @@ use Prim.Native.Nat.{ℕ, zero, suc, ◌+◌, ◌-◌, ◌*◌, ◌%◌, ◌≤�
 use mathlib.Core.Path.{◌≡◌, refl, sym, ap, ◌∙◌}
 use mathlib.Core.List.{List, [], ◌∷◌, ◌++◌}
 use lib.Dec.{ltb}
-use lib.ListN.{length, get_or, take, drop, set, length-set, length-drop}
+use lib.ListN.{length, get_or, take, drop, set, length-set}
 use native.Mathlib.Omega.{arith}
 use borrow.Author.Tests.{lt-ltb, le-ltb, ltb-false}
 use borrow.Rule.Slice.PartMut.{put_mid}
 use Rattle.laws.specs.Said.{gives}
 use Rattle.laws.specs.Laid.{laid_first, laid}
 use Rattle.laws.proofs.Said.{passed, gives_same}
-use Rattle.laws.proofs.Laid.{set-laid, set_then, laid_then, lent_laid, length-laid, rest-is}
-use Rattle.text.specs.Put.{put_at}
-use Rattle.text.proofs.Put.{text-put}
+use Rattle.laws.proofs.Laid.{set-laid, laid_then, lent_laid, length-laid}
 use Rattle.file_reading.specs.Format.{filter_limit, frame_limit, filter_bytes, frame_bytes}
 use Rattle.file_writing.specs.Writer.{filter_count, frame_count, first_bad_kind, bad_kind, needed, write_of}
 
@@ -46,14 +44,6 @@ module _ (filters : List ℕ) where
       let e : n - i ≡ 0 = omega arith in
       rw e at h
 
--- ---- two stores, and a text put behind them
-pub second-laid : (frames out e : List ℕ) (h l : ℕ) → 2 + length frames ≤ length out
-    → e ≡ put_at 2 frames (set (set out 0 h) 1 l) → e ≡ laid_first (h ∷ l ∷ frames) out
-second-laid frames out e h l r p =
-    text-put 2 frames (set (set out 0 h) 1 l) e p (simp length-set (omega arith))
-    ∙ ap (laid 2 frames) (ap (λ (x : List ℕ). set x 1 l) (set-laid 0 h out (omega arith)) ∙ set_then 1 l 0 (h ∷ []) out refl (omega arith))
-    ∙ laid_then 2 0 (h ∷ l ∷ []) frames out refl (omega arith)
-
 -- ---- a store, a text laid into the rest, and another into the rest of that
 module _ (filters second out : List ℕ) (n : ℕ) (room : 1 + length filters + length second ≤ length out) where
   -- the output when the filters are back
@@ -71,13 +61,6 @@ module _ (filters second out : List ℕ) (n : ℕ) (room : 1 + length filters + 
 
   then-long : (e : List ℕ) → Filled e → length (then-out e) ≡ length out
   then-long e p = ap length (filters-laid e p) ∙ length-laid 0 (n ∷ filters) out (omega arith)
-
-  pub second_from : (e : List ℕ) → Filled e → 1 + length filters ≤ length (then-out e)
-  second_from e p = rw (then-long e p) (omega arith)
-
-  pub second-room : (e : List ℕ) → Filled e
-      → length second ≤ length (take (length (then-out e) - (1 + length filters)) (drop (1 + length filters) (then-out e)))
-  second-room e p = rw (rest-is (1 + length filters) (then-out e), length-drop, then-long e p) (omega arith)
 
   pub both-laid : (e f : List ℕ) → Filled e
       → f ≡ laid_first second (take (length (then-out e) - (1 + length filters)) (drop (1 + length filters) (then-out e)))

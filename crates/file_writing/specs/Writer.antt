@@ -1,12 +1,11 @@
 -- What writing a file answers, and what it leaves in the output.
 -- Source: the outline, "Frame file and program" and refusals 6, 7, 12, 14 in the writer's order.
-use Rattle.std.specs.Prelude.{ℕ, zero, suc, ◌+◌, ◌*◌, ◌/◌, ◌%◌, cond, List, ◌∷◌, ◌++◌, [], ltb, length, get_or}
+use Rattle.std.specs.Prelude.{ℕ, zero, suc, ◌+◌, ◌*◌, ◌/◌, ◌%◌, cond, List, ◌∷◌, ◌++◌, [], ltb, length, get_or, Result}
 use Rattle.laws.specs.Said.{Said, refuses, gives}
 use Rattle.laws.specs.Laid.{written}
-use Rattle.refusals.specs.Table.{refusal_said}
+use Rattle.refusals.specs.Table.{answer_said}
+use Rattle.refusals.specs.declared.Refusal.{Refusal}
 use Rattle.file_reading.specs.Format.{filter_limit, frame_limit, filter_bytes, frame_bytes}
-use Rattle.file_writing.specs.declared.Writing.{Writing}
-use Rattle.file_writing.specs.declared.Writing.TheVariants.{Written, Refused}
 
 -- the file of these entries
 abbrev pub filter_count : List ℕ → ℕ
@@ -47,6 +46,5 @@ write_of filters frames room =
 abbrev pub leaves : List ℕ → List ℕ → List ℕ → List ℕ
 leaves filters frames out = written (write_of filters frames (length out)) (file_of filters frames) out
 
-abbrev pub writing_said : Writing → Said ℕ
-writing_said (Written length) = gives length
-writing_said (Refused f) = refusal_said f
+abbrev pub writing_said : Result ℕ Refusal → Said ℕ
+writing_said = answer_said (λ length. length)

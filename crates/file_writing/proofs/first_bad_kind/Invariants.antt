@@ -1,11 +1,7 @@
 -- `file_writing::first_bad_kind` meets its contract: at each turn the rest of the filters has the same first bad kind. Assumes nothing.
-use Prim.Native.Nat.{◌≤◌, ◌-◌}
-use mathlib.Core.Path.{◌≡◌}
-use Rattle.file_writing.specs.Writer.{first_bad_kind}
+use Rattle.std.proofs.Common.{◌≡◌, ◌-◌}
+use Rattle.file_writing.specs.Writer.{filter_count, first_bad_kind, bad_kind}
 use Rattle.file_writing.proofs.first_bad_kind.Given as goal
 
-abbrev pub invariant-loop-i : goal.invariant-loop-i
-invariant-loop-i l = (l.i ≤ l.count) × (first_bad_kind l.filters (l.count - l.i) l.i ≡ first_bad_kind l.filters l.count 0)
-
-abbrev pub decreases-loop-i : goal.decreases-loop-i
-decreases-loop-i l = l.count - l.i
+abbrev pub invariant-loop-index : goal.invariant-loop-index
+invariant-loop-index l = first_bad_kind l.filters (filter_count l.filters - l.index) l.index ≡ bad_kind l.filters

@@ -6,13 +6,13 @@ use Rattle.file_writing.proofs.write_file.Goals as goal
 
 pub write_sections-requires : goal.write_sections-requires
 write_sections-requires c =
-    let good = whole _ _ _ _ (sym c.in-Written.ensures) in
+    let good = whole _ _ _ _ (sym c.in_ok-length.ensures) in
     (good.fits, good.filters-within, good.frames-within)
 
-pub returns-in-Written-clause-out_after : goal.returns-in-Written-clause-out_after
+pub returns-clause-out_after : goal.returns-clause-out_after
 unfolding written
-returns-in-Written-clause-out_after c = c.write_sections.ensures ∙ rw (sym c.in-Written.ensures)
+returns-clause-out_after c = c.write_sections.ensures ∙ rw (sym c.in_ok-length.ensures)
 
-pub returns-in-Refused-clause-out_after : goal.returns-in-Refused-clause-out_after
+pub returns-in_err-length-clause-out_after : goal.returns-in_err-length-clause-out_after
 unfolding written
-returns-in-Refused-clause-out_after c = rw (sym c.in-Refused.ensures)
+returns-in_err-length-clause-out_after c = rw (sym c.in_err-length.ensures)
