@@ -4,10 +4,8 @@ use Rattle.std.specs.Prelude.{ℕ, Bool, cond, List, [], ◌∷◌, eqb, length,
 use Rattle.laws.specs.Row.{bit}
 use Rattle.laws.specs.Said.{Said, refuses, gives}
 use Rattle.laws.specs.Laid.{laying, written}
-use Rattle.refusals.specs.Table.{refusal_said, in_one}
+use Rattle.refusals.specs.Table.{in_one}
 use Rattle.abi_answers.specs.declared.Answer.{Answer}
-use Rattle.abi_answers.specs.declared.Delivery.{Delivery}
-use Rattle.abi_answers.specs.declared.Delivery.TheVariants as delivery
 
 -- number 0 and what is given, or the refusal's number and the numbers that it carries, in one
 abbrev pub answer_of : Said ℕ → Answer
@@ -29,10 +27,6 @@ whole = sized 13
 -- a slice in the front of n zeros, where there is room for it
 abbrev pub laid_into : ℕ → List ℕ → List ℕ
 laid_into n slice = written (laying slice (replicate n 0)) slice (replicate n 0)
-
-abbrev pub delivery_said : Delivery → Said ℕ
-delivery_said (delivery.Given value) = gives value
-delivery_said (delivery.Refused refusal) = refusal_said refusal
 
 -- an answer with bytes beside it, delivered into a lent slice of n bytes
 abbrev pub delivering : ℕ → ℕ → List ℕ → Said ℕ × List ℕ → Said ℕ

@@ -6,7 +6,7 @@ use lib.ListN.{get_or}
 use Rattle.std.proofs.Common.{Result, Ok, Err, ap}
 use Rattle.laws.specs.Said.{Said, refuses, gives}
 use Rattle.laws.proofs.Only.{only}
-use Rattle.refusals.specs.Table.{number_of, carried_of, refusal_said, answer_said}
+use Rattle.refusals.specs.Table.{number_of, carried_of, refusal_said, answer_said, bytes_said}
 use Rattle.refusals.specs.declared.Refusal.{Refusal}
 use Rattle.refusals.specs.declared.Refusal.TheVariants.{IdentifierAboveLimit, InvalidDataLength, NonCompliantDlc, PatternLength, PatternByte, OutputTooShort, FilterKind, DrainRuns, NoDrainRuns, BrokenState, FileEnds, CountAboveLimit, BytesAfterEnd, WrongLength, EmptyList, EntryAboveLimit}
 
@@ -68,3 +68,16 @@ module _ {A B : Type 0} (told : A → B) (read : B → A) (read-told : (a : A) �
 
   pub only-answer : (r s : Result A Refusal) → answer_said told r ≡ answer_said told s → r ≡ s
   only-answer = only (answer_said told) answer_back answer-back
+
+-- an answer that comes with bytes likewise
+bytes_back : Said ℕ × List ℕ → Result (List ℕ) Refusal
+bytes_back (gives n, bytes) = Ok bytes
+bytes_back (refuses k n, bytes) = Err (refusal_at k n)
+
+bytes-back : (n : ℕ) (r : Result (List ℕ) Refusal) → bytes_back (bytes_said n r) ≡ r
+unfolding bytes_back
+bytes-back n (Ok bytes) = refl
+bytes-back n (Err f) = ap Err (refusal-at f)
+
+pub only-bytes : (n : ℕ) (r s : Result (List ℕ) Refusal) → bytes_said n r ≡ bytes_said n s → r ≡ s
+only-bytes n = only (bytes_said n) bytes_back (bytes-back n)

@@ -1,6 +1,6 @@
 -- The refusals in the outline's numbers, and the numbers that each carries.
 -- Source: the outline, "Refusals by number"; request #102 for 15, and for the index that 1 carries; request #106 for the three numbers of 5.
-use Rattle.std.specs.Prelude.{ℕ, ◌+◌, ◌*◌, List, [], ◌∷◌, Result, Ok, Err}
+use Rattle.std.specs.Prelude.{ℕ, ◌+◌, ◌*◌, List, [], ◌∷◌, replicate, Result, Ok, Err}
 use Rattle.laws.specs.Said.{Said, refuses, gives}
 use Rattle.refusals.specs.declared.Refusal.{Refusal}
 use Rattle.refusals.specs.declared.Refusal.TheVariants.{IdentifierAboveLimit, InvalidDataLength, NonCompliantDlc, PatternLength, PatternByte, OutputTooShort, FilterKind, DrainRuns, NoDrainRuns, BrokenState, FileEnds, CountAboveLimit, BytesAfterEnd, WrongLength, EmptyList, EntryAboveLimit}
@@ -48,6 +48,11 @@ refusal_said f = refuses (number_of f) (carried_of f)
 abbrev pub answer_said : {A B : Type 0} → (A → B) → Result A Refusal → Said B
 answer_said told (Ok value) = gives (told value)
 answer_said told (Err f) = refusal_said f
+
+-- an answer that comes with n bytes: so many are given, and zeros stand beside a refusal
+abbrev pub bytes_said : ℕ → Result (List ℕ) Refusal → Said ℕ × List ℕ
+bytes_said n (Ok bytes) = (gives n, bytes)
+bytes_said n (Err f) = (refusal_said f, replicate n 0)
 
 -- the numbers that a refusal carries in one number, for an answer that has room for one: 0 for none, and each further one in a byte of its own
 abbrev pub behind : ℕ → List ℕ → ℕ
