@@ -7,16 +7,14 @@ ghost use Rattle.text.specs.Laying.{laying_said};
 ghost use Rattle.file_reading.specs.Format.{count_at};
 ghost use Rattle.file_words.specs.Words.{around, count_words, refusal_words, words_of};
 
-use file_reading::{FILTER_LIMIT, FRAME_LIMIT, Reading};
-use text::Laying;
+use file_reading::{FILTER_LIMIT, FRAME_LIMIT};
+use refusals::Refusal;
 
+// 0 past the end.
 fn byte_at(file: &[u8], at: usize) -> usize
     ensures { (result ≡ get_or file.now at 0) × (result < 256) }
 {
-    if at >= file.len() {
-        return 0;
-    }
-    file[at] as usize
+    usize::from(file.get(at).copied().unwrap_or(0))
 }
 
 fn count_at(file: &[u8], at: usize) -> usize
@@ -126,16 +124,13 @@ fn put_words(file: &[u8], page: &mut [u8]) -> usize
     ensures { (result ≡ length (words_of file.now))
         × (page.new ≡ laid_first (words_of file.now) page.old) × (result ≤ 128) }
 {
-    let reading = file_reading::read_file(file);
-    match reading {
-        Reading::Read(_) => 0,
-        Reading::Refused(refusal) => {
-            put_refusal(file, refusal.number(), refusal.carried() as usize, page)
-        }
+    match file_reading::read_file(file) {
+        Ok(_) => 0,
+        Err(refusal) => put_refusal(file, refusal.number(), refusal.carried() as usize, page),
     }
 }
 
-pub fn words(file: &[u8], out: &mut [u8]) -> Laying
+pub fn words(file: &[u8], out: &mut [u8]) -> Result<usize, Refusal>
     ensures result_value { laying_said result ≡ laying (words_of file.now) out.old }
     ensures out_after { out.new ≡ written (laying (words_of file.now) out.old) (words_of file.now) out.old }
 {

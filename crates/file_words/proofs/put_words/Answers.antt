@@ -4,10 +4,10 @@ use native.Mathlib.Omega.{arith}
 use Rattle.file_words.proofs.Refused.{words-read, words-refused}
 use Rattle.file_words.proofs.put_words.Goals as goal
 
-pub returns-in-Read : goal.returns-in-Read
-returns-in-Read c = rw (words-read c.args.file.now c.in-Read.field-0 (sym c.in-Read.ensures)) (refl, refl, omega arith)
+pub returns-in-Ok : goal.returns-in-Ok
+returns-in-Ok c = rw (words-read c.args.file.now c.in-Ok.field-0 (sym c.in-Ok.ensures)) (refl, refl, omega arith)
 
-pub returns-in-Refused : goal.returns-in-Refused
-returns-in-Refused c =
-    let refused = words-refused c.args.file.now c.in-Refused.refusal (sym c.in-Refused.ensures) in
+pub returns-in-Err : goal.returns-in-Err
+returns-in-Err c =
+    let refused = words-refused c.args.file.now c.in-Err.refusal (sym c.in-Err.ensures) in
     rw (refused, ← c.number.ensures, ← c.carried.ensures) c.put_refusal.ensures
