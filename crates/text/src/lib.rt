@@ -2,12 +2,15 @@
 // A whole text laid into one, and its length, or the refusal.
 #![tactic(auto)]
 
+mod page;
+
 ghost use Rattle.std.specs.Prelude.{◌≡◌, ◌+◌, ◌/◌, ◌≤◌, length};
 ghost use Rattle.laws.specs.Laid.{laid, laying, written};
 ghost use Rattle.text.specs.Decimal.{decimal};
 ghost use Rattle.text.specs.Put.{place_behind, put_at};
 ghost use Rattle.text.specs.Laying.{laying_said};
 
+pub use page::Page;
 use refusals::Refusal;
 
 // No number has more digits.
