@@ -1,13 +1,12 @@
--- The comparison of records, place by place; and it is equality: a record is the same as itself, and what is found the same is equal.
+-- The comparison of records is the library's of their parts; and it is equality: a record is the same as itself, and what is found the same is equal.
 -- Assumes nothing.
-use Prim.Native.Nat.{ℕ, ◌+◌, ◌≤◌, ◌<◌}
+use Prim.Native.Nat.{ℕ}
 use mathlib.Core.Path.{◌≡◌, refl, ap, ◌∙◌}
 use mathlib.Core.Bool.{true, ◌&&◌}
 use mathlib.Core.List.{List, [], ◌∷◌}
 use lib.Dec.{eqb}
-use lib.ListN.{length, get_or, drop, drop_of_length-le}
-use lib.Seq.{drop-cons}
-use native.Mathlib.Numerals.{add-one}
+use Rattle.std.proofs.Common.{nat_eq}
+use Rattle.std.specs.Cmp.Lexicographic.{pointwise}
 use borrow.Author.Tests.{eqb-true, eq-eqb}
 use Rattle.laws.proofs.Bools.{both_true}
 use Rattle.box_records.specs.declared.RecordError.TheVariants.{Overrun, BusOff}
@@ -16,14 +15,13 @@ use Rattle.box_records.specs.declared.RecordKind.TheVariants.{Frame, Error}
 use Rattle.box_records.specs.declared.Record.{Record}
 use Rattle.box_records.specs.Same.{same_bytes, same_kind, same_record}
 
-pub same_step : (a b : List ℕ) (i : ℕ) → i < length a → i < length b →
-    same_bytes (drop i a) (drop i b) ≡ (eqb (get_or a i 0) (get_or b i 0) && same_bytes (drop (i + 1) a) (drop (i + 1) b))
+-- the library's equality of bytes
+pub same-pointwise : (a b : List ℕ) → pointwise nat_eq a b ≡ same_bytes a b
 unfolding same_bytes
-same_step a b i la lb = rw (drop-cons a i 0 la, drop-cons b i 0 lb, add-one i)
-
-pub same_end : (a b : List ℕ) (i : ℕ) → length a ≤ i → length b ≤ i → same_bytes (drop i a) (drop i b) ≡ true
-unfolding same_bytes
-same_end a b i la lb = rw (drop_of_length-le a la, drop_of_length-le b lb)
+same-pointwise [] [] = refl
+same-pointwise [] (y ∷ ys) = refl
+same-pointwise (x ∷ xs) [] = refl
+same-pointwise (x ∷ xs) (y ∷ ys) = rw (same-pointwise xs ys) refl
 
 bytes-self : (xs : List ℕ) → same_bytes xs xs ≡ true
 unfolding same_bytes
