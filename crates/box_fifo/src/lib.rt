@@ -11,13 +11,13 @@ pub const ENTRY_LIMIT: usize = 64;
 pub const WEIGHT_LIMIT: usize = 64;
 
 // A mark's bytes are zeros.
-#[derive(Clone, Copy)]
+#[derive(Clone, Copy, Debug, PartialEq, Eq)]
 pub struct Entry {
     pub mark: bool,
     pub bytes: [u8; 13],
 }
 
-#[derive(Clone, Copy)]
+#[derive(Clone, Copy, Debug, PartialEq, Eq)]
 pub struct Fifo {
     pub entries: [Entry; ENTRY_LIMIT],
     pub head: usize,
@@ -25,14 +25,14 @@ pub struct Fifo {
     pub weight: usize,
 }
 
-#[derive(Clone, Copy)]
+#[derive(Clone, Copy, Debug, PartialEq, Eq)]
 pub enum Arrival {
     Whole,
     Mark,
     NotRecorded,
 }
 
-#[derive(Clone, Copy)]
+#[derive(Clone, Copy, Debug, PartialEq, Eq)]
 pub struct Arrived {
     pub answer: Arrival,
     pub state: Fifo,

@@ -1,8 +1,9 @@
 -- The queue as a ring: its rules, and what an offer and a take answer, over the number of places.
 -- Source: the outline, "The box" and refusal 10.
-use Rattle.std.specs.Prelude.{ℕ, ◌+◌, ◌-◌, ◌%◌, Bool, true, false, cond, ◌&&◌, [], ltb, leb, get_or, set, replicate}
+use Rattle.std.specs.Prelude.{ℕ, ◌+◌, ◌-◌, ◌%◌, Bool, true, false, cond, ◌&&◌, [], ltb, leb, get_or, set, replicate, Option, Some, None, Result, Ok, Err}
 use Rattle.laws.specs.Said.{Said, refuses, gives}
-use Rattle.refusals.specs.Table.{refusal_said}
+use Rattle.refusals.specs.declared.Refusal.{Refusal}
+use Rattle.refusals.specs.Table.{refusal_said, answer_said}
 use Rattle.box_records.specs.declared.RecordKind.TheVariants.{Frame}
 use Rattle.box_records.specs.declared.Record.{Record}
 use Rattle.box_records.specs.Blank.{blank}
@@ -10,9 +11,6 @@ use Rattle.box_queue.specs.declared.Queue.{Queue}
 use Rattle.box_queue.specs.declared.Offering.{Offering}
 use Rattle.box_queue.specs.declared.Offering.TheVariants as offering
 use Rattle.box_queue.specs.declared.Offered.{Offered}
-use Rattle.box_queue.specs.declared.Taking.{Taking}
-use Rattle.box_queue.specs.declared.Taking.TheVariants as taking
-use Rattle.box_queue.specs.declared.TakeAnswer.{TakeAnswer}
 use Rattle.box_queue.specs.declared.Taken.{Taken}
 
 -- the queue has 32 places
@@ -48,10 +46,12 @@ offer_of n q x =
     (cond (ltb q.count n) (gives true, pushed n q x) (gives false, q))
     (refuses 10 [], q)
 
-abbrev pub offering_said : Offering → Said Bool
-offering_said offering.Stored = gives true
-offering_said offering.Lost = gives false
-offering_said (offering.Refused f) = refusal_said f
+abbrev pub is_stored : Offering → Bool
+is_stored offering.Stored = true
+is_stored offering.Lost = false
+
+abbrev pub offering_said : Result Offering Refusal → Said Bool
+offering_said = answer_said is_stored
 
 abbrev pub offered_said : Offered → Said Bool × Queue
 offered_said r = (offering_said r.answer, r.state)
@@ -66,13 +66,10 @@ take_of n q =
     (cond (ltb 0 q.count) ((gives true, oldest q), popped n q) ((gives false, blank), q))
     ((refuses 10 [], blank), q)
 
-abbrev pub taking_said : Taking → Said Bool
-taking_said taking.Got = gives true
-taking_said taking.Nothing = gives false
-taking_said (taking.Refused f) = refusal_said f
-
-abbrev pub take_said : TakeAnswer → TakeSaid
-take_said a = (taking_said a.taking, a.oldest)
+abbrev pub take_said : Result (Option Record) Refusal → TakeSaid
+take_said (Ok (Some x)) = (gives true, x)
+take_said (Ok None) = (gives false, blank)
+take_said (Err f) = (refusal_said f, blank)
 
 abbrev pub taken_said : Taken → TakeSaid × Queue
 taken_said r = (take_said r.answer, r.state)

@@ -10,43 +10,29 @@ use refusals::Refusal;
 // The places of the queue.
 pub const QUEUE_LIMIT: usize = 32;
 
-#[derive(Clone, Copy)]
+#[derive(Clone, Copy, Debug, PartialEq, Eq)]
 pub struct Queue {
     pub places: [Record; QUEUE_LIMIT],
     pub head: usize,
     pub count: usize,
 }
 
-#[derive(Clone, Copy)]
+#[derive(Clone, Copy, Debug, PartialEq, Eq)]
 pub enum Offering {
     Stored,
     Lost,
-    Refused(Refusal),
 }
 
-#[derive(Clone, Copy)]
+#[derive(Clone, Copy, Debug, PartialEq, Eq)]
 pub struct Offered {
-    pub answer: Offering,
+    pub answer: Result<Offering, Refusal>,
     pub state: Queue,
 }
 
-#[derive(Clone, Copy)]
-pub enum Taking {
-    Got,
-    Nothing,
-    Refused(Refusal),
-}
-
-// The record stands beside the enum: blank where there is none.
-#[derive(Clone, Copy)]
-pub struct TakeAnswer {
-    pub taking: Taking,
-    pub oldest: Record,
-}
-
-#[derive(Clone, Copy)]
+// The oldest record, or that there is none.
+#[derive(Clone, Copy, Debug, PartialEq, Eq)]
 pub struct Taken {
-    pub answer: TakeAnswer,
+    pub answer: Result<Option<Record>, Refusal>,
     pub state: Queue,
 }
 
@@ -66,10 +52,7 @@ impl Queue {
     pub fn valid(self) -> bool
         ensures { result ≡ queue_ok queue_limit self }
     {
-        if self.head >= QUEUE_LIMIT {
-            return false;
-        }
-        self.count <= QUEUE_LIMIT
+        self.head < QUEUE_LIMIT && self.count <= QUEUE_LIMIT
     }
 
     #[tactic(auto, unfolding(crate::specs::Ring::queue_ok, crate::specs::Ring::offer_of))]
@@ -78,22 +61,21 @@ impl Queue {
     {
         if !self.valid() {
             return Offered {
-                answer: Offering::Refused(Refusal::BrokenState),
+                answer: Err(Refusal::BrokenState),
                 state: self,
             };
         }
         if self.count < QUEUE_LIMIT {
             let mut queue = self;
-            let last = (self.head + self.count) % QUEUE_LIMIT;
-            queue.places[last] = offered;
+            queue.places[(self.head + self.count) % QUEUE_LIMIT] = offered;
             queue.count = self.count + 1;
             return Offered {
-                answer: Offering::Stored,
+                answer: Ok(Offering::Stored),
                 state: queue,
             };
         }
         Offered {
-            answer: Offering::Lost,
+            answer: Ok(Offering::Lost),
             state: self,
         }
     }
@@ -103,36 +85,23 @@ impl Queue {
         ensures { taken_said result ≡ take_of queue_limit self }
     {
         if !self.valid() {
-            let answer = TakeAnswer {
-                taking: Taking::Refused(Refusal::BrokenState),
-                oldest: Record::blank(),
-            };
             return Taken {
-                answer: answer,
+                answer: Err(Refusal::BrokenState),
                 state: self,
             };
         }
-        if self.count > 0 {
-            let mut rest = self;
-            let head = self.head;
-            let answer = TakeAnswer {
-                taking: Taking::Got,
-                oldest: rest.places[head],
-            };
-            rest.head = (head + 1) % QUEUE_LIMIT;
-            rest.count = self.count - 1;
+        if self.count == 0 {
             return Taken {
-                answer: answer,
-                state: rest,
+                answer: Ok(None),
+                state: self,
             };
         }
-        let answer = TakeAnswer {
-            taking: Taking::Nothing,
-            oldest: Record::blank(),
-        };
+        let mut rest = self;
+        rest.head = (self.head + 1) % QUEUE_LIMIT;
+        rest.count = self.count - 1;
         Taken {
-            answer: answer,
-            state: self,
+            answer: Ok(Some(self.places[self.head])),
+            state: rest,
         }
     }
 }

@@ -1,19 +1,19 @@
 -- A fresh box, an arrival and a take.
 -- Source: the outline, "The box", and refusal 10.
-use Rattle.std.specs.Prelude.{ℕ, cond, List, []}
+use Rattle.std.specs.Prelude.{ℕ, cond, List, [], Result}
 use Rattle.laws.specs.Said.{Said, refuses, gives}
-use Rattle.refusals.specs.Table.{refusal_said}
+use Rattle.refusals.specs.declared.Refusal.{Refusal}
+use Rattle.refusals.specs.Table.{answer_said}
 use Rattle.box_records.specs.declared.Record.{Record}
 use Rattle.box_records.specs.Blank.{blank}
 use Rattle.box_queue.specs.declared.Queue.{Queue}
 use Rattle.box_queue.specs.Ring as Q
 use Rattle.box_fifo.specs.declared.Fifo.{Fifo}
+use Rattle.box_fifo.specs.declared.Arrival.{Arrival}
 use Rattle.box_fifo.specs.Ring as F
 use Rattle.box_state.specs.declared.Phase as P
 use Rattle.box_state.specs.declared.Phase.TheVariants as phase
 use Rattle.box_state.specs.declared.ReceiveBox.{ReceiveBox}
-use Rattle.box_state.specs.declared.Arriving.{Arriving}
-use Rattle.box_state.specs.declared.Arriving.TheVariants as arriving
 use Rattle.box_state.specs.declared.Arrived.{Arrived}
 use Rattle.box_state.specs.declared.Taken.{Taken}
 use Rattle.box_state.specs.Rules.{box_ok}
@@ -40,9 +40,8 @@ arrive_of g frame =
     (gives (F.arrive_of g.fifo frame).0, with_of g (F.arrive_of g.fifo frame).1 g.queue g.phase g.held)
     (refuses 10 [], g)
 
-abbrev pub arriving_said : Arriving → Said F.Outcome
-arriving_said (arriving.Answered a) = gives (F.arrival_said a)
-arriving_said (arriving.Refused f) = refusal_said f
+abbrev pub arriving_said : Result Arrival Refusal → Said F.Outcome
+arriving_said = answer_said F.arrival_said
 
 abbrev pub arrived_said : Arrived → Said F.Outcome × ReceiveBox
 arrived_said r = (arriving_said r.answer, r.state)

@@ -8,13 +8,13 @@ ghost use Rattle.box_state.specs.Rules.{record_of, front_ready, copy_ready, rele
 ghost use Rattle.box_state.specs.Calls.{fresh_box, arrived_said, arrive_of, taken_said, take_of};
 
 use box_fifo::{Arrival, Entry, Fifo};
-use box_queue::{Queue, TakeAnswer, Taking};
+use box_queue::Queue;
 use box_records::{Record, RecordError, RecordKind};
 use box_words::Words;
 use refusals::Refusal;
 
 // The step that comes next. `Idle`: no drain runs.
-#[derive(Clone, Copy)]
+#[derive(Clone, Copy, Debug, PartialEq, Eq)]
 pub enum Phase {
     Idle,
     Notice,
@@ -26,7 +26,7 @@ pub enum Phase {
     Finish,
 }
 
-#[derive(Clone, Copy)]
+#[derive(Clone, Copy, Debug, PartialEq, Eq)]
 pub struct ReceiveBox {
     pub fifo: Fifo,
     pub queue: Queue,
@@ -35,21 +35,15 @@ pub struct ReceiveBox {
     pub words: Words,
 }
 
-#[derive(Clone, Copy)]
-pub enum Arriving {
-    Answered(Arrival),
-    Refused(Refusal),
-}
-
-#[derive(Clone, Copy)]
+#[derive(Clone, Copy, Debug, PartialEq, Eq)]
 pub struct Arrived {
-    pub answer: Arriving,
+    pub answer: Result<Arrival, Refusal>,
     pub state: ReceiveBox,
 }
 
-#[derive(Clone, Copy)]
+#[derive(Clone, Copy, Debug, PartialEq, Eq)]
 pub struct Taken {
-    pub answer: TakeAnswer,
+    pub answer: Result<Option<Record>, Refusal>,
     pub state: ReceiveBox,
 }
 
@@ -66,7 +60,7 @@ pub fn record_of(entry: Entry) -> Record
     let bytes = entry.bytes;
     Record {
         kind: RecordKind::Frame,
-        bytes: bytes,
+        bytes,
     }
 }
 
@@ -75,12 +69,7 @@ pub fn record_of(entry: Entry) -> Record
 fn front_ready(state: ReceiveBox) -> bool
     ensures { result ≡ front_ready state }
 {
-    let words = state.words;
-    if words.receive_due() {
-        let fifo = state.fifo;
-        return 0 < fifo.count;
-    }
-    false
+    state.words.receive_due() && 0 < state.fifo.count
 }
 
 // At copy the front is whole.
@@ -88,12 +77,7 @@ fn front_ready(state: ReceiveBox) -> bool
 fn copy_ready(state: ReceiveBox) -> bool
     ensures { result ≡ copy_ready state }
 {
-    if front_ready(state) {
-        let fifo = state.fifo;
-        let front = fifo.front();
-        return !front.mark;
-    }
-    false
+    front_ready(state) && !state.fifo.front().mark
 }
 
 // At release the held record is the front's.
@@ -101,28 +85,21 @@ fn copy_ready(state: ReceiveBox) -> bool
 fn release_ready(state: ReceiveBox) -> bool
     ensures { result ≡ release_ready state }
 {
-    if front_ready(state) {
-        let fifo = state.fifo;
-        let held = state.held;
-        return held.same(record_of(fifo.front()));
-    }
-    false
+    front_ready(state) && state.held.same(record_of(state.fifo.front()))
 }
 
 // The next step is one that the stored words allow.
 fn phase_ok(state: ReceiveBox) -> bool
     ensures { result ≡ phase_ok state.phase state }
 {
-    let phase = state.phase;
-    let words = state.words;
-    match phase {
+    match state.phase {
         Phase::Idle => true,
-        Phase::Notice => words.notice_due(),
-        Phase::Look => words.receive_due(),
+        Phase::Notice => state.words.notice_due(),
+        Phase::Look => state.words.receive_due(),
         Phase::Miss => front_ready(state),
         Phase::Copy => copy_ready(state),
         Phase::Release => release_ready(state),
-        Phase::Offer => words.receive_due(),
+        Phase::Offer => state.words.receive_due(),
         Phase::Finish => true,
     }
 }
@@ -133,34 +110,23 @@ impl ReceiveBox {
     pub fn valid(self) -> bool
         ensures { result ≡ box_ok self }
     {
-        let fifo = self.fifo;
-        if fifo.valid() {
-            let queue = self.queue;
-            if queue.valid() {
-                return phase_ok(self);
-            }
-        }
-        false
+        self.fifo.valid() && self.queue.valid() && phase_ok(self)
     }
 
     // No entries, no records, no drain.
     pub fn fresh() -> ReceiveBox
         ensures { result ≡ fresh_box }
     {
-        let fifo = Fifo::fresh();
-        let queue = Queue::fresh();
-        let held = Record::blank();
-        let words = Words {
-            interrupt: 0,
-            enable: 0,
-            status: 0,
-        };
         ReceiveBox {
-            fifo: fifo,
-            queue: queue,
+            fifo: Fifo::fresh(),
+            queue: Queue::fresh(),
             phase: Phase::Idle,
-            held: held,
-            words: words,
+            held: Record::blank(),
+            words: Words {
+                interrupt: 0,
+                enable: 0,
+                status: 0,
+            },
         }
     }
 
@@ -169,23 +135,19 @@ impl ReceiveBox {
     pub fn arrive(self, frame: [u8; 13]) -> Arrived
         ensures { arrived_said result ≡ arrive_of self frame }
     {
-        if self.valid() {
-            let fifo = self.fifo;
-            let out = fifo.arrive(frame);
-            let arrival = out.answer;
-            let after = out.state;
-            let state = ReceiveBox {
-                fifo: after,
-                ..self
-            };
+        if !self.valid() {
             return Arrived {
-                answer: Arriving::Answered(arrival),
-                state: state,
+                answer: Err(Refusal::BrokenState),
+                state: self,
             };
         }
+        let after = self.fifo.arrive(frame);
         Arrived {
-            answer: Arriving::Refused(Refusal::BrokenState),
-            state: self,
+            answer: Ok(after.answer),
+            state: ReceiveBox {
+                fifo: after.state,
+                ..self
+            },
         }
     }
 
@@ -194,27 +156,19 @@ impl ReceiveBox {
     pub fn take(self) -> Taken
         ensures { taken_said result ≡ take_of self }
     {
-        if self.valid() {
-            let queue = self.queue;
-            let out = queue.take();
-            let answer = out.answer;
-            let rest = out.state;
-            let state = ReceiveBox {
-                queue: rest,
-                ..self
-            };
+        if !self.valid() {
             return Taken {
-                answer: answer,
-                state: state,
+                answer: Err(Refusal::BrokenState),
+                state: self,
             };
         }
-        let answer = TakeAnswer {
-            taking: Taking::Refused(Refusal::BrokenState),
-            oldest: Record::blank(),
-        };
+        let rest = self.queue.take();
         Taken {
-            answer: answer,
-            state: self,
+            answer: rest.answer,
+            state: ReceiveBox {
+                queue: rest.state,
+                ..self
+            },
         }
     }
 }

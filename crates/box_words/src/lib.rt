@@ -9,7 +9,7 @@ use status_bits::{
     BUS_ERROR, BUS_OFF, ERROR, ERROR_PASSIVE, ERROR_WARNING, RECEIVE, TRANSMIT, is_set,
 };
 
-#[derive(Clone, Copy)]
+#[derive(Clone, Copy, Debug, PartialEq, Eq)]
 pub struct Words {
     pub interrupt: u32,
     pub enable: u32,
@@ -17,7 +17,7 @@ pub struct Words {
 }
 
 // The wakes and the new enable word.
-#[derive(Clone, Copy)]
+#[derive(Clone, Copy, Debug, PartialEq, Eq)]
 pub struct Finished {
     pub transmit_wakes: u8,
     pub error_wakes: u8,
