@@ -8,3 +8,4 @@ pub mod Positions
 pub mod EndToEnd
 pub mod Short
 pub mod Only
+pub mod Judged

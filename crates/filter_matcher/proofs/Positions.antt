@@ -1,12 +1,11 @@
 -- The word compare of a frame is the definition, position by position: the word that a frame shows has, at the positions of each field, the digits of what the
 -- frame shows there, and the compare asks for just the positions that the half's fields name. Assumes nothing.
-use Prim.Native.Nat.{ℕ, ◌/◌, ◌%◌, ◌^◌, ◌<◌}
-use mathlib.Core.Path.{◌≡◌, sym, ap, ap₂, subst, ◌∙◌}
+use Prim.Native.Nat.{ℕ, ◌^◌, ◌<◌}
+use mathlib.Core.Path.{◌≡◌, ap, ap₂, subst, ◌∙◌}
 use mathlib.Core.Bool.{Bool, true, false, cond, ◌||◌}
 use mathlib.Core.List.{List, map, [], ◌∷◌}
 use lib.Dec.{T, eqb, ltb}
 use lib.ListN.{length, take, drop}
-use borrow.Author.Tests.{ne_eqb}
 use Rattle.laws.specs.Said.{Said, refuses, gives}
 use Rattle.filter_compilers.specs.Table.{Filter, fields_of, joined}
 use Rattle.filter_types.specs.Words.{written_each, laid_of}
@@ -80,22 +79,10 @@ module _ (registers frame : List ℕ) (code-small : code_in registers < 2 ^ 32) 
   unfolding compare_of match_of
   compare-is kind = ap (λ (b : Bool). cond {A = Said Bool} (ltb 1 kind) (refuses 7 (0 ∷ [])) (gives b)) (agrees-is (eqb kind 1))
 
--- ---- the compare of a dual filter: the first half, and the second where the first does not agree
-pub by_first : (kind code mask m : ℕ) (shown : Shown) → kind ≡ 1 → m ≡ miss_of code mask shown.dual shown.first → m ≡ 0
-    → gives true ≡ compare_of kind code mask shown
-unfolding compare_of agrees_of
-by_first kind code mask m shown k e none = rw (k, sym e ∙ none)
-
-pub by-second : (kind code mask m n : ℕ) (shown : Shown) → kind ≡ 1 → m ≡ miss_of code mask shown.dual shown.first → (m ≡ 0 → ⊥)
-    → n ≡ miss_of code mask shown.dual shown.second → gives (eqb n 0) ≡ compare_of kind code mask shown
-unfolding compare_of agrees_of
-by-second kind code mask m n shown k e some d = rw (k, ← e, ne_eqb m 0 some, ← d)
-
 -- ---- what is compared is the registers' words and what the frame shows
-pub matched : (kind known words code mask : ℕ) (registers frame : List ℕ) (shown : Shown) → kind ≡ known
-    → (code ≡ code_in registers) × (code < 2 ^ 32) → (mask ≡ mask_in registers) × (mask < 2 ^ 32) → (words / 2 ^ 32 ≡ code) × (words % 2 ^ 32 ≡ mask)
-    → shown ≡ show_of frame → compare_of known (words / 2 ^ 32) (words % 2 ^ 32) shown ≡ match_of kind registers frame
-matched kind known words code mask registers frame shown k c m both s =
-    ap₂ (λ (x y : ℕ). compare_of known x y shown) (both.0 ∙ c.0) (both.1 ∙ m.0)
-    ∙ ap₂ (λ (x : ℕ) (v : Shown). compare_of x (code_in registers) (mask_in registers) v) (sym k) s
-    ∙ compare-is registers frame (subst (λ (x : ℕ). x < 2 ^ 32) c.0 c.1) (subst (λ (x : ℕ). x < 2 ^ 32) m.0 m.1) kind
+pub matched : (dual : Bool) (code mask : ℕ) (registers frame : List ℕ) (shown : Shown) → (code ≡ code_in registers) × (code < 2 ^ 32)
+    → (mask ≡ mask_in registers) × (mask < 2 ^ 32) → shown ≡ show_of frame → agrees_of dual code mask shown ≡ accepts_of dual registers frame
+matched dual code mask registers frame shown c m s =
+    ap₂ (λ (x y : ℕ). agrees_of dual x y shown) c.0 m.0
+    ∙ ap (agrees_of dual (code_in registers) (mask_in registers)) s
+    ∙ agrees-is registers frame (subst (λ (x : ℕ). x < 2 ^ 32) c.0 c.1) (subst (λ (x : ℕ). x < 2 ^ 32) m.0 m.1) dual

@@ -1,13 +1,14 @@
 -- The short form: the two words that a frame shows, each compared with a filter's code at once.
 -- Source: the outline, "The matcher" and refusal 7.
-use Rattle.std.specs.Prelude.{ℕ, ◌-◌, ◌^◌, Bool, true, false, cond, ◌||◌, List, [], ◌∷◌, eqb, ltb}
+use Rattle.std.specs.Prelude.{◌≡◌, ℕ, ◌-◌, ◌^◌, Bool, true, false, cond, ◌||◌, List, [], ◌∷◌, eqb, ltb, Result, Ok, Err}
 use Rattle.std.specs.Int.Bits.{bit_and, bit_xor}
 use Rattle.laws.specs.Said.{Said, refuses, gives}
+use Rattle.refusals.specs.declared.Refusal.{Refusal}
 use Rattle.refusals.specs.Table.{refusal_said}
 use Rattle.filter_matcher.specs.declared.shown.Shown.{Shown}
 use Rattle.filter_matcher.specs.Match.{accepts_of}
-use Rattle.filter_matcher.specs.declared.Matching.{Matching}
-use Rattle.filter_matcher.specs.declared.Matching.TheVariants.{Accepted, NotAccepted, Refused}
+use Rattle.filter_matcher.specs.declared.Kind.{Kind}
+use Rattle.filter_matcher.specs.declared.Kind.TheVariants.{Single, Dual}
 
 -- where a named position is compared and the code differs from the word
 unfoldable pub miss_of : ℕ → ℕ → ℕ → ℕ → ℕ
@@ -28,7 +29,18 @@ compare_of kind code mask shown = by_kind kind (λ dual. agrees_of dual code mas
 unfoldable pub match_of : ℕ → List ℕ → List ℕ → Said Bool
 match_of kind registers frame = by_kind kind (λ dual. accepts_of dual registers frame)
 
-abbrev pub matching_said : Matching → Said Bool
-matching_said Accepted = gives true
-matching_said NotAccepted = gives false
-matching_said (Refused f) = refusal_said f
+abbrev pub matching_said : Result Bool Refusal → Said Bool
+matching_said (Ok accepted) = gives accepted
+matching_said (Err f) = refusal_said f
+
+abbrev pub is_dual : Kind → Bool
+is_dual Single = false
+is_dual Dual = true
+
+-- a byte that names a kind, and the kind; or the refusal of any other byte
+abbrev pub kind_said : Result Kind Refusal → Said Bool
+kind_said (Ok kind) = gives (is_dual kind)
+kind_said (Err f) = refusal_said f
+
+abbrev pub Judges : ℕ → Result Kind Refusal → Type 0
+Judges byte judged = kind_said judged ≡ by_kind byte (λ dual. dual)

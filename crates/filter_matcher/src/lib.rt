@@ -3,18 +3,31 @@
 
 pub mod shown;
 
-ghost use Rattle.std.specs.Prelude.{◌≡◌, [], ◌∷◌, ◌/◌, ◌%◌, ◌^◌};
-ghost use Rattle.laws.specs.Said.{refuses, gives};
-ghost use Rattle.filter_matcher.specs.Words.{miss_of, compare_of, match_of, matching_said};
+ghost use Rattle.std.specs.Prelude.{◌≡◌, ◌/◌, ◌%◌, ◌^◌};
+ghost use Rattle.filter_matcher.specs.Words.{Judges, is_dual, miss_of, agrees_of, compare_of, match_of, matching_said};
 
 use crate::shown::Shown;
 use refusals::Refusal;
 
-#[derive(Clone, Copy)]
-pub enum Matching {
-    NotAccepted,
-    Accepted,
-    Refused(Refusal),
+// How a filter looks at a frame: all of it at once, or by two halves of which one is enough.
+#[derive(Clone, Copy, Debug, PartialEq, Eq)]
+pub enum Kind {
+    Single,
+    Dual,
+}
+
+impl TryFrom<u8> for Kind {
+    type Error = Refusal;
+
+    ghost try_from_gives = { Judges };
+
+    fn try_from(kind: u8) -> Result<Self, Refusal> {
+        match kind {
+            0 => Ok(Kind::Single),
+            1 => Ok(Kind::Dual),
+            _ => Err(Refusal::FilterKind(0)),
+        }
+    }
 }
 
 // A filter's two register words in one, the code's above the mask's.
@@ -31,56 +44,45 @@ fn miss(registers: u64, word: u32, named: u32) -> u64
     ((registers >> 32) ^ (word as u64)) & !registers & (named as u64)
 }
 
-fn verdict(accepted: bool) -> Matching
-    ensures { matching_said result ≡ gives accepted }
-{
-    if accepted {
-        Matching::Accepted
-    } else {
-        Matching::NotAccepted
-    }
+// A filter: its kind, and its registers as two words.
+#[derive(Clone, Copy, Debug, PartialEq, Eq)]
+pub struct Filter {
+    pub kind: Kind,
+    pub code: u32,
+    pub mask: u32,
 }
 
-fn wrong_kind() -> Matching
-    ensures { matching_said result ≡ refuses 7 (0 ∷ []) }
-{
-    Matching::Refused(Refusal::FilterKind(0))
-}
-
-fn compare_both(kind: u8, registers: u64, shown: Shown) -> Matching
-    ensures { matching_said result ≡ compare_of kind (registers / 2 ^ 32) (registers % 2 ^ 32) shown }
-{
-    if kind == 0 {
-        return verdict(miss(registers, shown.single, shown.named) == 0);
+impl Filter {
+    // Whether it accepts a frame that shows this.
+    #[tactic(auto, unfolding(crate::specs::Words::agrees_of))]
+    pub fn accepts(self, shown: Shown) -> bool
+        ensures { result ≡ agrees_of (is_dual self.kind) self.code self.mask shown }
+    {
+        let registers = both(self.code, self.mask);
+        match self.kind {
+            Kind::Single => miss(registers, shown.single, shown.named) == 0,
+            Kind::Dual => {
+                miss(registers, shown.dual, shown.first) == 0
+                    || miss(registers, shown.dual, shown.second) == 0
+            }
+        }
     }
-    if kind != 1 {
-        return wrong_kind();
-    }
-    if miss(registers, shown.dual, shown.first) == 0 {
-        return Matching::Accepted;
-    }
-    verdict(miss(registers, shown.dual, shown.second) == 0)
 }
 
 // A filter's code and mask register words against what a frame shows.
-pub fn compare(kind: u8, code: u32, mask: u32, shown: Shown) -> Matching
+pub fn compare(kind: u8, code: u32, mask: u32, shown: Shown) -> Result<bool, Refusal>
     ensures { matching_said result ≡ compare_of kind code mask shown }
 {
-    compare_both(kind, both(code, mask), shown)
+    let kind = Kind::try_from(kind)?;
+    Ok(Filter { kind, code, mask }.accepts(shown))
 }
 
 // The kind is judged first, and each kind looks at the frame by itself, so that only the words that it compares are made.
-pub fn accepts(kind: u8, registers: &[u8; 8], frame: &[u8; 13]) -> Matching
+pub fn accepts(kind: u8, registers: &[u8; 8], frame: &[u8; 13]) -> Result<bool, Refusal>
     ensures { matching_said result ≡ match_of kind registers.now frame.now }
 {
-    if kind > 1 {
-        return wrong_kind();
-    }
+    let kind = Kind::try_from(kind)?;
     let code = octets::word(registers[0], registers[1], registers[2], registers[3]);
     let mask = octets::word(registers[4], registers[5], registers[6], registers[7]);
-    let words = both(code, mask);
-    if kind == 0 {
-        return compare_both(0, words, shown::show(frame));
-    }
-    compare_both(1, words, shown::show(frame))
+    Ok(Filter { kind, code, mask }.accepts(shown::show(frame)))
 }

@@ -1,17 +1,19 @@
--- `filter_matcher::accepts` meets its contract: what is compared is the registers' words and what the frame shows. Assumes nothing.
-use mathlib.Core.Path.{◌∙◌}
-use native.Mathlib.Omega.{arith}
-use borrow.Author.Tests.{lt-ltb}
+-- `filter_matcher::accepts` meets its contract: the kind is judged, and what is compared is the registers' words and what the frame shows. Assumes nothing.
+use Rattle.std.proofs.Common.{rules}
+use mathlib.Core.Path.{ap, ◌∙◌}
+use Rattle.laws.specs.Said.{gives}
 use Rattle.filter_matcher.specs.Words.{match_of}
+use Rattle.filter_matcher.specs.Match.{accepts_of}
+use Rattle.filter_matcher.proofs.Judged.{judged_given, judged_refused}
 use Rattle.filter_matcher.proofs.Positions.{matched}
 use Rattle.filter_matcher.proofs.accepts.Goals as goal
 
-pub returns-then-kind-gt1 : goal.returns-then-kind-gt1
+pub returns-in_err-kind : goal.returns-in_err-kind
 unfolding match_of
-returns-then-kind-gt1 c = rw (c.wrong_kind.ensures, lt-ltb 1 c.args.kind (omega (arith, c.if-kind-gt1.true)))
-
-pub returns-then-kind-eq0 : goal.returns-then-kind-eq0
-returns-then-kind-eq0 c = c.compare_both.ensures ∙ matched _ 0 _ _ _ c.args.registers.now c.args.frame.now _ c.if-kind-eq0.true c.word-code.ensures c.word-mask.ensures c.both-words.ensures c.show.ensures
+returns-in_err-kind c = let e = judged_refused c.args.kind (λ dual. accepts_of dual c.args.registers.now c.args.frame.now) _ _ c.in_err-kind.ensures in search rules
 
 pub returns : goal.returns
-returns c = c.compare_both-2.ensures ∙ matched _ 1 _ _ _ c.args.registers.now c.args.frame.now _ (omega (arith, c.if-kind-gt1.false, c.if-kind-eq0.false)) c.word-code.ensures c.word-mask.ensures c.both-words.ensures c.show-2.ensures
+unfolding match_of
+returns c =
+    ap gives (c.accepts.ensures ∙ matched _ _ _ c.args.registers.now c.args.frame.now _ c.word-code.ensures c.word-mask.ensures c.show.ensures)
+    ∙ judged_given c.args.kind (λ dual. accepts_of dual c.args.registers.now c.args.frame.now) _ c.in_ok-kind.ensures
