@@ -1,7 +1,7 @@
 -- The word compare of a frame is the definition, position by position: the word that a frame shows has, at the positions of each field, the digits of what the
 -- frame shows there, and the compare asks for just the positions that the half's fields name. Assumes nothing.
 use Prim.Native.Nat.{ℕ, ◌^◌, ◌<◌}
-use mathlib.Core.Path.{◌≡◌, ap, ap₂, subst, ◌∙◌}
+use mathlib.Core.Path.{◌≡◌, sym, ap, ap₂, subst, ◌∙◌}
 use mathlib.Core.Bool.{Bool, true, false, cond, ◌||◌}
 use mathlib.Core.List.{List, map, [], ◌∷◌}
 use lib.Dec.{T, eqb, ltb}
@@ -86,3 +86,9 @@ matched dual code mask registers frame shown c m s =
     ap₂ (λ (x y : ℕ). agrees_of dual x y shown) c.0 m.0
     ∙ ap (agrees_of dual (code_in registers) (mask_in registers)) s
     ∙ agrees-is registers frame (subst (λ (x : ℕ). x < 2 ^ 32) c.0 c.1) (subst (λ (x : ℕ). x < 2 ^ 32) m.0 m.1) dual
+
+-- ---- the compare of a dual filter: the first half, and the second where the first does not agree
+pub by_first : (kind code mask m : ℕ) (shown : Shown) → kind ≡ 1 → m ≡ miss_of code mask shown.dual shown.first → m ≡ 0
+    → gives true ≡ compare_of kind code mask shown
+unfolding compare_of agrees_of
+by_first kind code mask m shown k e none = rw (k, sym e ∙ none)

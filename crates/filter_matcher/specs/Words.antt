@@ -1,10 +1,10 @@
 -- The short form: the two words that a frame shows, each compared with a filter's code at once.
 -- Source: the outline, "The matcher" and refusal 7.
-use Rattle.std.specs.Prelude.{◌≡◌, ℕ, ◌-◌, ◌^◌, Bool, true, false, cond, ◌||◌, List, [], ◌∷◌, eqb, ltb, Result, Ok, Err}
+use Rattle.std.specs.Prelude.{◌≡◌, ℕ, ◌-◌, ◌^◌, Bool, true, false, cond, ◌||◌, List, [], ◌∷◌, eqb, ltb, Result}
 use Rattle.std.specs.Int.Bits.{bit_and, bit_xor}
 use Rattle.laws.specs.Said.{Said, refuses, gives}
 use Rattle.refusals.specs.declared.Refusal.{Refusal}
-use Rattle.refusals.specs.Table.{refusal_said}
+use Rattle.refusals.specs.Table.{answer_said}
 use Rattle.filter_matcher.specs.declared.shown.Shown.{Shown}
 use Rattle.filter_matcher.specs.Match.{accepts_of}
 use Rattle.filter_matcher.specs.declared.Kind.{Kind}
@@ -30,17 +30,12 @@ unfoldable pub match_of : ℕ → List ℕ → List ℕ → Said Bool
 match_of kind registers frame = by_kind kind (λ dual. accepts_of dual registers frame)
 
 abbrev pub matching_said : Result Bool Refusal → Said Bool
-matching_said (Ok accepted) = gives accepted
-matching_said (Err f) = refusal_said f
+matching_said = answer_said (λ accepted. accepted)
 
 abbrev pub is_dual : Kind → Bool
 is_dual Single = false
 is_dual Dual = true
 
--- a byte that names a kind, and the kind; or the refusal of any other byte
-abbrev pub kind_said : Result Kind Refusal → Said Bool
-kind_said (Ok kind) = gives (is_dual kind)
-kind_said (Err f) = refusal_said f
-
+-- the kind that a byte names, or the refusal of a byte that names none
 abbrev pub Judges : ℕ → Result Kind Refusal → Type 0
-Judges byte judged = kind_said judged ≡ by_kind byte (λ dual. dual)
+Judges byte judged = answer_said is_dual judged ≡ by_kind byte (λ dual. dual)

@@ -84,5 +84,9 @@ pub fn accepts(kind: u8, registers: &[u8; 8], frame: &[u8; 13]) -> Result<bool, 
     let kind = Kind::try_from(kind)?;
     let code = octets::word(registers[0], registers[1], registers[2], registers[3]);
     let mask = octets::word(registers[4], registers[5], registers[6], registers[7]);
-    Ok(Filter { kind, code, mask }.accepts(shown::show(frame)))
+    let filter = Filter { kind, code, mask };
+    match kind {
+        Kind::Single => Ok(filter.accepts(shown::show(frame))),
+        Kind::Dual => Ok(filter.accepts(shown::show(frame))),
+    }
 }

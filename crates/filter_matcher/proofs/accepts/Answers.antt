@@ -12,8 +12,14 @@ pub returns-in_err-kind : goal.returns-in_err-kind
 unfolding match_of
 returns-in_err-kind c = let e = judged_refused c.args.kind (λ dual. accepts_of dual c.args.registers.now c.args.frame.now) _ _ c.in_err-kind.ensures in search rules
 
-pub returns : goal.returns
+pub returns-in-Single : goal.returns-in-Single
 unfolding match_of
-returns c =
+returns-in-Single c =
     ap gives (c.accepts.ensures ∙ matched _ _ _ c.args.registers.now c.args.frame.now _ c.word-code.ensures c.word-mask.ensures c.show.ensures)
+    ∙ judged_given c.args.kind (λ dual. accepts_of dual c.args.registers.now c.args.frame.now) _ c.in_ok-kind.ensures
+
+pub returns-in-Dual : goal.returns-in-Dual
+unfolding match_of
+returns-in-Dual c =
+    ap gives (c.accepts-in-Dual.ensures ∙ matched _ _ _ c.args.registers.now c.args.frame.now _ c.word-code.ensures c.word-mask.ensures c.show-in-Dual.ensures)
     ∙ judged_given c.args.kind (λ dual. accepts_of dual c.args.registers.now c.args.frame.now) _ c.in_ok-kind.ensures
