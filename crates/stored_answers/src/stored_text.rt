@@ -1,92 +1,86 @@
-// The text of a line: hexadecimal columns.
-ghost use Rattle.std.specs.Prelude.{◌<◌, ◌≤◌};
+// The text of a line: a letter, and columns of hexadecimal digits, two a byte, high byte first.
+ghost use Rattle.std.specs.Prelude.{◌≤◌, length};
 
-// The value of a digit, or 16 where there is none.
-fn digit(c: u8) -> u8
-    ensures { result ≤ 16 }
-{
-    if c < b'0' {
-        return 16;
-    }
-    if c <= b'9' {
-        return c - b'0';
-    }
-    if c < b'a' {
-        return 16;
-    }
-    if c <= b'f' {
-        return c - b'a' + 10;
-    }
-    16
+use abi_answers::Answer;
+use anyhow::Result;
+use std::alloc::Global;
+
+// No line is longer; of one that is, the beginning is read.
+const LONGEST: usize = 1280;
+
+fn is_digit(c: &u8) -> bool {
+    matches!(c, b'0'..=b'9' | b'a'..=b'f')
 }
 
-// One digit more, in the high or the low half of its byte; answers how many there are now.
-fn put_digit(value: u8, digits: usize, out: &mut [u8; 640]) -> usize
-    requires { digits ≤ 1280 }
-    ensures { result ≤ 1280 }
-{
-    if value > 15 {
-        return digits;
+// The bytes of a line's digits, whatever stands between them.
+pub(crate) fn decode(alloc: Global, line: &[u8]) -> Result<Vec<u8>> {
+    let mut digits = Vec::new(alloc);
+    for digit in line.iter().take(LONGEST).skip(1).copied().filter(is_digit) {
+        digits.push(digit)?;
     }
-    if digits == 1280 {
-        return digits;
+    let even = digits.len() / 2 * 2;
+    Ok(hex::decode(alloc, &digits[..even])?)
+}
+
+// The bytes of a line that are still to be read. Past the end a number is 0, and a part is empty.
+#[derive(Drop)]
+pub(crate) struct Columns<'a> {
+    pub(crate) rest: &'a [u8],
+}
+
+impl<'a> Columns<'a> {
+    // The next bytes, so many or what there is of them.
+    pub(crate) fn bytes(&mut self, count: usize) -> &'a [u8]
+        ensures { length result.now ≤ count }
+    {
+        let (column, rest) = self.rest.split_at(count.min(self.rest.len()));
+        self.rest = rest;
+        column
     }
-    let at = digits / 2;
-    out[at] = out[at] % 16 * 16 + value;
-    digits + 1
-}
 
-// The bytes of a line's digits, two to a byte, whatever stands between them; answers how many.
-pub(crate) fn decode(line: &[u8], out: &mut [u8; 640]) -> usize {
-    let mut digits: usize = 0;
-    let mut i = 0;
-    while i < line.len() {
-        digits = put_digit(digit(line[i]), digits, out);
-        i += 1;
+    fn number<const N: usize>(&mut self) -> [u8; N] {
+        let column = self.bytes(N);
+        let mut number = [0; N];
+        let low = &mut number[..];
+        low[N - column.len()..].copy_from_slice(column);
+        number
     }
-    digits / 2
-}
 
-// The byte at a place, 0 past the end.
-pub(crate) fn byte(bytes: &[u8], at: usize) -> u8 {
-    if at < bytes.len() {
-        return bytes[at];
+    pub(crate) fn byte(&mut self) -> u8 {
+        u8::from_be_bytes(self.number())
     }
-    0
-}
 
-// The part from a place on, of that length or what there is of it.
-pub(crate) fn part(bytes: &[u8], from: usize, count: usize) -> &[u8] {
-    let start = least(from, bytes.len());
-    let end = start + least(count, bytes.len() - start);
-    &bytes[start..end]
-}
-
-// The bytes that `decode` made.
-pub(crate) fn decoded(bytes: &[u8; 640], count: usize) -> &[u8] {
-    part(bytes, 0, count)
-}
-
-fn least(a: usize, b: usize) -> usize
-    ensures { (result ≤ a) × (result ≤ b) }
-{
-    if a < b { a } else { b }
-}
-
-// A number of so many bytes, the high byte first.
-pub(crate) fn number(bytes: &[u8], from: usize, count: usize) -> u64 {
-    let column = part(bytes, from, count);
-    let mut n: u64 = 0;
-    let mut i = 0;
-    while i < column.len() {
-        n = n % 0x100_0000_0000_0000 * 256 + wide(column[i]);
-        i += 1;
+    pub(crate) fn flag(&mut self) -> bool {
+        self.byte() == 1
     }
-    n
-}
 
-fn wide(byte: u8) -> u64
-    ensures { result < 256 }
-{
-    byte as u64
+    pub(crate) fn short(&mut self) -> u16 {
+        u16::from_be_bytes(self.number())
+    }
+
+    pub(crate) fn long(&mut self) -> u32 {
+        u32::from_be_bytes(self.number())
+    }
+
+    pub(crate) fn wide(&mut self) -> u64 {
+        u64::from_be_bytes(self.number())
+    }
+
+    // A pattern's column: its length in a byte, and its bytes.
+    pub(crate) fn pattern(&mut self) -> &'a [u8] {
+        let length = self.byte();
+        self.bytes(length as usize)
+    }
+
+    // Whether the next columns store this answer.
+    pub(crate) fn says(&mut self, answer: Answer) -> bool {
+        let number = self.byte();
+        let value = self.wide();
+        answer.number == u32::from(number) && answer.value == value
+    }
+
+    // Whether they store this answer, and behind it what the call left in the buffer that it was lent.
+    pub(crate) fn leaves(&mut self, answer: Answer, lent: &[u8]) -> bool {
+        self.says(answer) && lent == self.bytes(lent.len())
+    }
 }
