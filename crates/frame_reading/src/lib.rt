@@ -11,14 +11,13 @@ use identifiers::{ExtendedId, Id, StandardId};
 fn standard_raw(frame: &[u8; 13]) -> u16
     ensures { (result ≡ id_in false frame.now) × (result ≤ limit_of false) }
 {
-    let word = octets::wide(frame[1]) * 0x100 + octets::wide(frame[2]);
-    (word / 32) as u16
+    u16::from_be_bytes([frame[1], frame[2]]) / 32
 }
 
 fn extended_raw(frame: &[u8; 13]) -> u32
     ensures { (result ≡ id_in true frame.now) × (result ≤ limit_of true) }
 {
-    octets::word(frame[1], frame[2], frame[3], frame[4]) / 8
+    u32::from_be_bytes([frame[1], frame[2], frame[3], frame[4]]) / 8
 }
 
 pub fn identifier(frame: &[u8; 13]) -> Id
@@ -35,8 +34,7 @@ pub fn data(frame: &[u8; 13]) -> &[u8]
 {
     let start = frame_info::data_offset(frame);
     let end = start + frame_info::data_length(frame);
-    let bytes = &frame[..];
-    &bytes[start..end]
+    &frame[start..end]
 }
 
 // The bytes in use: all up to the end of the data.
@@ -44,6 +42,5 @@ pub fn as_slice(frame: &[u8; 13]) -> &[u8]
     ensures { result.now ≡ used_of frame.now }
 {
     let end = frame_info::data_offset(frame) + frame_info::data_length(frame);
-    let bytes = &frame[..];
-    &bytes[..end]
+    &frame[..end]
 }
