@@ -53,19 +53,19 @@ filled f =
     front_length
     ∙ rw rest
 
-pub standard-bytes : (raw hi lo : ℕ) → raw ≤ 0x7FF → hi ≡ raw * 32 / 256 % 256 → lo ≡ raw * 32 % 256
-    → hi ∷ lo ∷ [] ≡ id_bytes_of false raw
-standard-bytes raw hi lo small high low =
-    let first : hi ≡ (raw * 32 + 0) / 256 = omega arith in
-    let second : lo ≡ (raw * 32 + 0) % 256 / 1 = omega arith in
+-- an identifier's word, the high byte first
+pub standard-bytes : (raw : ℕ) → raw ≤ 0x7FF → raw * 32 / 256 % 256 ∷ raw * 32 % 256 ∷ [] ≡ id_bytes_of false raw
+standard-bytes raw small =
+    let first : raw * 32 / 256 % 256 ≡ (raw * 32 + 0) / 256 = omega arith in
+    let second : raw * 32 % 256 ≡ (raw * 32 + 0) % 256 / 1 = omega arith in
     cc
 
-pub extended-bytes : (raw a b c d : ℕ) → raw ≤ 0x1FFF_FFFF → a ≡ raw * 8 / 0x100_0000 % 256 → b ≡ raw * 8 / 0x1_0000 % 256
-    → c ≡ raw * 8 / 0x100 % 256 → d ≡ raw * 8 % 256 → a ∷ b ∷ c ∷ d ∷ [] ≡ id_bytes_of true raw
-extended-bytes raw a b c d small ea eb ec ed =
+pub extended-bytes : (raw : ℕ) → raw ≤ 0x1FFF_FFFF
+    → raw * 8 / 0x100_0000 % 256 ∷ raw * 8 / 0x1_0000 % 256 ∷ raw * 8 / 0x100 % 256 ∷ raw * 8 % 256 ∷ [] ≡ id_bytes_of true raw
+extended-bytes raw small =
     let word : ℕ = raw * 8 + 0 in
-    let first : a ≡ word / 0x100_0000 = omega arith in
-    let second : b ≡ word % 0x100_0000 / 0x1_0000 = omega arith in
-    let third : c ≡ word % 0x100_0000 % 0x1_0000 / 0x100 = omega arith in
-    let fourth : d ≡ word % 0x100_0000 % 0x1_0000 % 0x100 / 1 = omega arith in
+    let first : raw * 8 / 0x100_0000 % 256 ≡ word / 0x100_0000 = omega arith in
+    let second : raw * 8 / 0x1_0000 % 256 ≡ word % 0x100_0000 / 0x1_0000 = omega arith in
+    let third : raw * 8 / 0x100 % 256 ≡ word % 0x100_0000 % 0x1_0000 / 0x100 = omega arith in
+    let fourth : raw * 8 % 256 ≡ word % 0x100_0000 % 0x1_0000 % 0x100 / 1 = omega arith in
     cc

@@ -1,15 +1,13 @@
 -- What building answers: the refusal that is due, else the buffer; in the Rust's way, and in every way that is told by the largest code of a remote frame.
 -- Source: the outline, refusals 1 to 3 in this order; ISO 11898-1, data length code; request #101: there a remote frame may have code 0 to 8.
-use Rattle.std.specs.Prelude.{ℕ, ◌%◌, ◌≡◌, Bool, false, cond, not, ◌&&◌, ◌||◌, List, [], ◌∷◌, eqb, ltb, leb, length, replicate}
+use Rattle.std.specs.Prelude.{ℕ, ◌%◌, ◌≡◌, Bool, false, cond, not, ◌&&◌, ◌||◌, List, [], ◌∷◌, eqb, ltb, leb, length, replicate, Result, Ok, Err, ⊤}
 use Rattle.laws.specs.Said.{Said, refuses, gives, accepted}
+use Rattle.refusals.specs.declared.Refusal.{Refusal}
 use Rattle.refusals.specs.Table.{refusal_said}
 use Rattle.identifiers.specs.declared.Id.{Id}
 use Rattle.identifiers.specs.Limits.{limit_of, is_extended, raw_of}
 use Rattle.frame_reading.specs.Buffer.{Frame}
 use Rattle.frame_building.specs.Buffer.{buffer_of}
-use Rattle.frame_building.specs.declared.Building.{Building}
-use Rattle.frame_building.specs.declared.Building.TheVariants.{Made, Refused}
-use Rattle.frame_building.specs.declared.Built.{Built}
 use Rattle.frame_building.specs.declared.Way.{Way}
 use Rattle.frame_building.specs.declared.Way.TheVariants.{Rust, Iso}
 
@@ -72,12 +70,14 @@ build_in Iso f = build_by (most_of Iso) f
 abbrev pub Buildable : Frame → Type 0
 Buildable f = (way : Way) × ((build_in way f).0 ≡ gives 13)
 
-abbrev pub building_said : Building → Said ℕ
-building_said Made = gives 13
-building_said (Refused f) = refusal_said f
+-- a judgement, and what building answers by it: 13 bytes, or zeros beside a refusal
+abbrev pub building_said : Result ⊤ Refusal → Said ℕ
+building_said (Ok nothing) = gives 13
+building_said (Err f) = refusal_said f
 
-abbrev pub built_said : Built → Said ℕ × List ℕ
-built_said r = (building_said r.answer, r.frame)
+abbrev pub built_said : Result (List ℕ) Refusal → Said ℕ × List ℕ
+built_said (Ok frame) = (gives 13, frame)
+built_said (Err f) = (refusal_said f, replicate 13 0)
 
 -- the frame that a caller asks for
 abbrev pub asked : Id → Bool → Bool → ℕ → List ℕ → Frame

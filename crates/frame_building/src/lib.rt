@@ -13,34 +13,23 @@ use identifiers::Id;
 use octets::one_bit;
 use refusals::Refusal;
 
-#[derive(Clone, Copy)]
-pub enum Building {
-    Made,
-    Refused(Refusal),
-}
-
-// The answer, and the buffer beside it: zeros after a refusal.
-#[derive(Clone, Copy)]
-pub struct Built {
-    pub answer: Building,
-    pub frame: [u8; 13],
-}
-
 // The ways of building: the Rust's, where a remote frame has code 0, and that of ISO 11898-1, where its code is the
 // length that it asks for, 0 to 8.
-#[derive(Clone, Copy)]
+#[derive(Clone, Copy, Debug, PartialEq, Eq)]
 pub enum Way {
     Rust,
     Iso,
 }
 
-// The largest code that a remote frame may have.
-fn most(way: Way) -> usize
-    ensures { result ≡ most_of way }
-{
-    match way {
-        Way::Rust => 0,
-        Way::Iso => 8,
+impl Way {
+    // The largest code that a remote frame may have.
+    fn most(self) -> usize
+        ensures { result ≡ most_of self }
+    {
+        match self {
+            Way::Rust => 0,
+            Way::Iso => 8,
+        }
     }
 }
 
@@ -50,28 +39,22 @@ fn non_compliant_dlc(dlc: usize, length: usize) -> bool
     if dlc > 15 {
         return true;
     }
-    if length < 8 {
-        return dlc != length;
-    }
-    if length == 8 {
-        return dlc < 8;
-    }
-    false
+    (length < 8 && dlc != length) || (length == 8 && dlc < 8)
 }
 
-fn refuse_length(length: usize) -> Building
+fn refuse_length(length: usize) -> Result<(), Refusal>
     ensures { building_said result ≡ refuses 2 ((length % 256) ∷ []) }
 {
-    Building::Refused(Refusal::InvalidDataLength((length % 256) as u8))
+    Err(Refusal::InvalidDataLength((length % 256) as u8))
 }
 
-fn refuse_code(dlc: usize) -> Building
+fn refuse_code(dlc: usize) -> Result<(), Refusal>
     ensures { building_said result ≡ refuses 3 ((dlc % 256) ∷ []) }
 {
-    Building::Refused(Refusal::NonCompliantDlc((dlc % 256) as u8))
+    Err(Refusal::NonCompliantDlc((dlc % 256) as u8))
 }
 
-fn judge_remote(most: usize, dlc: usize, length: usize) -> Building
+fn judge_remote(most: usize, dlc: usize, length: usize) -> Result<(), Refusal>
     ensures { building_said result ≡ length_and_code (ltb most dlc) true dlc length }
 {
     let has_data = length > 0;
@@ -81,10 +64,10 @@ fn judge_remote(most: usize, dlc: usize, length: usize) -> Building
     if dlc > most {
         return refuse_code(dlc);
     }
-    Building::Made
+    Ok(())
 }
 
-fn judge_data(dlc: usize, length: usize) -> Building
+fn judge_data(dlc: usize, length: usize) -> Result<(), Refusal>
     ensures { building_said result ≡ length_and_code (non_compliant dlc length) false dlc length }
 {
     if length > 8 {
@@ -93,15 +76,16 @@ fn judge_data(dlc: usize, length: usize) -> Building
     if non_compliant_dlc(dlc, length) {
         return refuse_code(dlc);
     }
-    Building::Made
+    Ok(())
 }
 
 // By the largest code that a remote frame may have.
-fn judge(most: usize, id: Id, remote: bool, dlc: usize, length: usize) -> Building
+#[tactic(auto, unfolding(crate::specs::Building::judge_by))]
+fn judge(most: usize, id: Id, remote: bool, dlc: usize, length: usize) -> Result<(), Refusal>
     ensures { building_said result ≡ judge_by most (is_extended id) (raw_of id) remote dlc length }
 {
     if !id.within_limit() {
-        return Building::Refused(Refusal::IdentifierAboveLimit);
+        return Err(Refusal::IdentifierAboveLimit);
     }
     if remote {
         return judge_remote(most, dlc, length);
@@ -121,47 +105,18 @@ fn front(id: Id, remote: bool, own: bool, code: u8) -> [u8; 13]
     requires { (raw_of id ≤ limit_of (is_extended id)) × (code < 16) }
     ensures { result ≡ buffer_of (asked id remote own code []) }
 {
+    let mut frame = [0; 13];
     match id {
         Id::Standard(standard) => {
-            let word = (standard.0 as u32) * 32;
-            let first = info(false, remote, own, code);
-            [
-                first,
-                octets::low_byte(word >> 8),
-                octets::low_byte(word),
-                0,
-                0,
-                0,
-                0,
-                0,
-                0,
-                0,
-                0,
-                0,
-                0,
-            ]
+            frame[0] = info(false, remote, own, code);
+            frame[1..3].copy_from_slice(&(standard.0 * 32).to_be_bytes());
         }
         Id::Extended(extended) => {
-            let word = extended.0 * 8;
-            let first = info(true, remote, own, code);
-            let high = octets::low_byte(word >> 24);
-            [
-                first,
-                high,
-                octets::low_byte(word >> 16),
-                octets::low_byte(word >> 8),
-                octets::low_byte(word),
-                0,
-                0,
-                0,
-                0,
-                0,
-                0,
-                0,
-                0,
-            ]
+            frame[0] = info(true, remote, own, code);
+            frame[1..5].copy_from_slice(&(extended.0 * 8).to_be_bytes());
         }
     }
+    frame
 }
 
 fn data_start(id: Id) -> usize
@@ -179,31 +134,23 @@ fn with_data(frame: [u8; 13], start: usize, data: &[u8]) -> [u8; 13]
     ensures { result ≡ laid start «data».now frame }
 {
     let mut filled = frame;
-    let mut i = 0;
-    while i < data.len() {
-        filled[start + i] = data[i];
-        i += 1;
-    }
+    filled[start..start + data.len()].copy_from_slice(data);
     filled
 }
 
-pub fn build(way: Way, id: Id, remote: bool, own: bool, dlc: usize, data: &[u8]) -> Built
+pub fn build(
+    way: Way,
+    id: Id,
+    remote: bool,
+    own: bool,
+    dlc: usize,
+    data: &[u8],
+) -> Result<[u8; 13], Refusal>
     ensures { built_said result ≡ build_in way (asked id remote own dlc «data».now) }
 {
-    match judge(most(way), id, remote, dlc, data.len()) {
-        Building::Made => Built {
-            answer: Building::Made,
-            frame: with_data(
-                front(id, remote, own, (dlc % 16) as u8),
-                data_start(id),
-                data,
-            ),
-        },
-        Building::Refused(refusal) => Built {
-            answer: Building::Refused(refusal),
-            frame: [0; 13],
-        },
-    }
+    judge(way.most(), id, remote, dlc, data.len())?;
+    let frame = front(id, remote, own, (dlc % 16) as u8);
+    Ok(with_data(frame, data_start(id), data))
 }
 
 pub fn new_from_parameters(
@@ -212,7 +159,7 @@ pub fn new_from_parameters(
     self_reception: bool,
     dlc: usize,
     data: &[u8],
-) -> Built
+) -> Result<[u8; 13], Refusal>
     ensures { built_said result ≡ build_of (asked id remote_request self_reception dlc «data».now) }
 {
     build(Way::Rust, id, remote_request, self_reception, dlc, data)
@@ -225,19 +172,19 @@ pub fn new_with_remote_length(
     self_reception: bool,
     dlc: usize,
     data: &[u8],
-) -> Built
+) -> Result<[u8; 13], Refusal>
     ensures { built_said result ≡ build_in Way.Iso (asked id remote_request self_reception dlc «data».now) }
 {
     build(Way::Iso, id, remote_request, self_reception, dlc, data)
 }
 
-pub fn new(id: Id, data: &[u8]) -> Built
+pub fn new(id: Id, data: &[u8]) -> Result<[u8; 13], Refusal>
     ensures { built_said result ≡ build_of (asked_data id false «data».now) }
 {
     new_from_parameters(id, false, false, data.len(), data)
 }
 
-pub fn new_self_reception(id: Id, data: &[u8]) -> Built
+pub fn new_self_reception(id: Id, data: &[u8]) -> Result<[u8; 13], Refusal>
     ensures { built_said result ≡ build_of (asked_data id true «data».now) }
 {
     new_from_parameters(id, false, true, data.len(), data)

@@ -10,16 +10,16 @@ use Rattle.frame_building.proofs.front.Goals as goal
 
 pub returns-in-Standard : goal.returns-in-Standard
 returns-in-Standard c =
+    let id = c.in-Standard.standard in
     let small = rw c.in-Standard.is at c.requires.0 in
-    let raw = c.in-Standard.standard.0 in
-    let ids = standard-bytes raw c.low_byte.result c.low_byte-in-Standard.result small c.low_byte.ensures c.low_byte-in-Standard.ensures in
-    fronted (asked (Standard (record { 0 = raw })) c.args.remote c.args.own c.args.code []) _ _ c.info-first.ensures ids
+    let ids = c.copy_from_slice.ensures.after ∙ c.to_be_bytes.ensures ∙ standard-bytes id.0 small in
+    fronted (asked (Standard id) c.args.remote c.args.own c.args.code []) _ _ c.info.ensures ids
     ∙ ap (λ (i : Id). buffer_of (asked i c.args.remote c.args.own c.args.code [])) (sym c.in-Standard.is)
 
 pub returns-in-Extended : goal.returns-in-Extended
 returns-in-Extended c =
+    let id = c.in-Extended.extended in
     let small = rw c.in-Extended.is at c.requires.0 in
-    let raw = c.in-Extended.extended.0 in
-    let ids = extended-bytes raw c.low_byte-high.result c.low_byte-in-Extended.result c.low_byte-in-Extended-2.result c.low_byte-in-Extended-3.result small c.low_byte-high.ensures c.low_byte-in-Extended.ensures c.low_byte-in-Extended-2.ensures c.low_byte-in-Extended-3.ensures in
-    fronted (asked (Extended (record { 0 = raw })) c.args.remote c.args.own c.args.code []) _ _ c.info-first-in-Extended.ensures ids
+    let ids = c.copy_from_slice-in-Extended.ensures.after ∙ c.to_be_bytes-in-Extended.ensures ∙ extended-bytes id.0 small in
+    fronted (asked (Extended id) c.args.remote c.args.own c.args.code []) _ _ c.info-in-Extended.ensures ids
     ∙ ap (λ (i : Id). buffer_of (asked i c.args.remote c.args.own c.args.code [])) (sym c.in-Extended.is)
