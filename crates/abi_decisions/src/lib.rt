@@ -62,8 +62,7 @@ pub extern "C" fn chherbolat_transmit(status: u32, error_passive: bool) -> Answe
     ensures { result ≡ answer_of (gives (decided (transmit_of status error_passive))) }
 {
     let decision = status_decisions::transmit(status, error_passive);
-    let answer = decision.answer;
-    abi_answers::given(transmit_number(answer))
+    abi_answers::given(transmit_number(decision.answer))
 }
 
 #[unsafe(no_mangle)]
@@ -71,9 +70,7 @@ pub extern "C" fn chherbolat_poll(status: u32, error_passive: bool, in_flight: b
     ensures { result ≡ answer_of (gives (polled (poll_of status error_passive in_flight))) }
 {
     let decision = status_decisions::poll(status, error_passive, in_flight);
-    let answer = decision.answer;
-    let command = decision.command;
-    let number = poll_number(answer) + command_number(command) * 256;
+    let number = poll_number(decision.answer) + command_number(decision.command) * 256;
     abi_answers::given(number + octets::one_bit(decision.in_flight) as u64 * 65536)
 }
 
@@ -82,6 +79,5 @@ pub extern "C" fn chherbolat_receive(status: u32) -> Answer
     ensures { result ≡ answer_of (gives (decided (receive_of status))) }
 {
     let decision = status_decisions::receive(status);
-    let answer = decision.answer;
-    abi_answers::given(receive_number(answer))
+    abi_answers::given(receive_number(decision.answer))
 }
