@@ -2,43 +2,26 @@
 #![tactic(auto)]
 
 ghost use Rattle.std.specs.Prelude.{◌≡◌};
-ghost use Rattle.filter_characters.specs.Characters.{is_character, all_characters, bad_at};
+ghost use Rattle.filter_characters.specs.Characters.{is_character, all_characters, first_bad_in};
 
 fn known(character: u8) -> bool
     ensures { result ≡ is_character character }
 {
-    if character == b'x' {
-        return true;
-    }
-    // `0` and `1` are 48 and 49
-    character / 2 == 24
+    (character == b'0') | (character == b'1') | (character == b'x')
 }
 
 // Each is looked at, whatever was found before, so that the compiler can look at many at once.
 pub fn all_known(characters: &[u8]) -> bool
     ensures { result ≡ all_characters characters.now }
 {
-    let mut all = true;
-    let mut i = 0;
-    while i < characters.len() {
-        if !known(characters[i]) {
-            all = false;
-        }
-        i += 1;
-    }
-    all
+    characters
+        .iter()
+        .fold(true, |all, character| all & known(*character))
 }
 
-// The first place of a byte that is no pattern character (the length if there is none).
-pub fn first_bad(characters: &[u8]) -> usize
-    ensures { result ≡ bad_at characters.now }
+// The first place of a byte that is no pattern character, where there is one.
+pub fn first_bad(characters: &[u8]) -> Option<usize>
+    ensures { result ≡ first_bad_in characters.now }
 {
-    let mut at = 0;
-    while at < characters.len() {
-        if !known(characters[at]) {
-            return at;
-        }
-        at += 1;
-    }
-    at
+    characters.iter().position(|character| !known(*character))
 }
