@@ -14,7 +14,7 @@ use Rattle.filter_compilers.specs.Table.{Filter, single_standard, single_extende
 use Rattle.filter_compilers.specs.Words.{word_of}
 use Rattle.filter_compilers.specs.Answers.{lengths_of}
 use Rattle.filter_compilers.proofs.Words.{or-three, word-append}
-use Rattle.filter_compilers.proofs.Lengths.{lengths-five}
+use Rattle.filter_compilers.proofs.Lengths.{lengths-given}
 use Rattle.filter_compilers.proofs.Drawing.{nothing-drawn, run-drawn, row_laid, row-good, and-group, and-true, all_append}
 
 -- the row shows the filter's patterns
@@ -88,16 +88,16 @@ or-all vs = left-right bit_or 0 or-three or_zero_r 0 vs
 and-all : (vs : List Bool) → left ◌&&◌ true vs ≡ right ◌&&◌ true vs
 and-all vs = left-right ◌&&◌ true and-group and-true true vs
 
-pub single-standard : (id rtr first second one two three row : List ℕ) → lengths_of 0 (11 ∷ 1 ∷ 8 ∷ 8 ∷ 0 ∷ []) (length id ∷ length rtr ∷ length first ∷ length second ∷ 0 ∷ []) (gives 8) ≡ gives 8
+pub single-standard : (id rtr first second one two three row : List ℕ) → lengths_of 0 (11 ∷ 1 ∷ 8 ∷ 8 ∷ []) (length id ∷ length rtr ∷ length first ∷ length second ∷ []) (gives 8) ≡ gives 8
     → Draws 21 id (replicate 32 120) one → Draws 20 rtr one two → Draws 8 first two three → Draws 0 second three row
     → Shows single_standard (id ∷ rtr ∷ first ∷ second ∷ []) row
 unfolding fields_of left right words_of goods_of
 single-standard id rtr first second one two three row made e1 e2 e3 e4 =
-    let widths = lengths-five 11 1 8 8 0 (length id) (length rtr) (length first) (length second) 0 made in
-    let a : length id ≡ 11 = widths.0 in
-    let b : length rtr ≡ 1 = widths.1 in
-    let c : length first ≡ 8 = widths.2 in
-    let d : length second ≡ 8 = widths.3 in
+    let same = (lengths-given 0 (11 ∷ 1 ∷ 8 ∷ 8 ∷ []) (length id ∷ length rtr ∷ length first ∷ length second ∷ []) (gives 8) made).0 in
+    let a : length id ≡ 11 = cc in
+    let b : length rtr ≡ 1 = cc in
+    let c : length first ≡ 8 = cc in
+    let d : length second ≡ 8 = cc in
     let d1 = run-drawn nothing-drawn 21 id (omega arith) one e1 in
     let d2 = run-drawn d1 20 rtr (omega arith) two e2 in
     let d3 = run-drawn d2 8 first (omega arith) three e3 in
@@ -108,14 +108,14 @@ single-standard id rtr first second one two three row made e1 e2 e3 e4 =
       widths = rw (a, b, c, d);
     }
 
-pub single-extended : (id rtr one row : List ℕ) → lengths_of 0 (29 ∷ 1 ∷ 0 ∷ 0 ∷ 0 ∷ []) (length id ∷ length rtr ∷ 0 ∷ 0 ∷ 0 ∷ []) (gives 8) ≡ gives 8
+pub single-extended : (id rtr one row : List ℕ) → lengths_of 0 (29 ∷ 1 ∷ []) (length id ∷ length rtr ∷ []) (gives 8) ≡ gives 8
     → Draws 3 id (replicate 32 120) one → Draws 2 rtr one row
     → Shows single_extended (id ∷ rtr ∷ []) row
 unfolding fields_of left right words_of goods_of
 single-extended id rtr one row made e1 e2 =
-    let widths = lengths-five 29 1 0 0 0 (length id) (length rtr) 0 0 0 made in
-    let a : length id ≡ 29 = widths.0 in
-    let b : length rtr ≡ 1 = widths.1 in
+    let same = (lengths-given 0 (29 ∷ 1 ∷ []) (length id ∷ length rtr ∷ []) (gives 8) made).0 in
+    let a : length id ≡ 29 = cc in
+    let b : length rtr ≡ 1 = cc in
     let d1 = run-drawn nothing-drawn 3 id (omega arith) one e1 in
     let d2 = run-drawn d1 2 rtr (omega arith) row e2 in
     record {
@@ -124,14 +124,14 @@ single-extended id rtr one row made e1 e2 =
       widths = rw (a, b);
     }
 
-pub dual-extended : (first second one row : List ℕ) → lengths_of 0 (16 ∷ 16 ∷ 0 ∷ 0 ∷ 0 ∷ []) (length first ∷ length second ∷ 0 ∷ 0 ∷ 0 ∷ []) (gives 8) ≡ gives 8
+pub dual-extended : (first second one row : List ℕ) → lengths_of 0 (16 ∷ 16 ∷ []) (length first ∷ length second ∷ []) (gives 8) ≡ gives 8
     → Draws 16 first (replicate 32 120) one → Draws 0 second one row
     → Shows dual_extended (first ∷ second ∷ []) row
 unfolding fields_of left right words_of goods_of
 dual-extended first second one row made e1 e2 =
-    let widths = lengths-five 16 16 0 0 0 (length first) (length second) 0 0 0 made in
-    let a : length first ≡ 16 = widths.0 in
-    let b : length second ≡ 16 = widths.1 in
+    let same = (lengths-given 0 (16 ∷ 16 ∷ []) (length first ∷ length second ∷ []) (gives 8) made).0 in
+    let a : length first ≡ 16 = cc in
+    let b : length second ≡ 16 = cc in
     let d1 = run-drawn nothing-drawn 16 first (omega arith) one e1 in
     let d2 = run-drawn d1 0 second (omega arith) row e2 in
     record {
@@ -157,13 +157,13 @@ pub dual-standard : (id rtr payload other last nibble one two three four five ro
     → Draws 5 other three four → Draws 4 last four five → Draws 0 nibble five row → nibble ≡ drop 4 payload
     → Shows dual_standard (id ∷ rtr ∷ payload ∷ other ∷ last ∷ []) row
 unfolding fields_of left right words_of goods_of
-dual-standard id rtr payload other last nibble one two three four five row made e1 e2 e3 e4 e5 e6 same =
-    let widths = lengths-five 11 1 8 11 1 (length id) (length rtr) (length payload) (length other) (length last) made in
-    let a : length id ≡ 11 = widths.0 in
-    let b : length rtr ≡ 1 = widths.1 in
-    let c : length payload ≡ 8 = widths.2 in
-    let d : length other ≡ 11 = widths.3 in
-    let e : length last ≡ 1 = widths.4 in
+dual-standard id rtr payload other last nibble one two three four five row made e1 e2 e3 e4 e5 e6 rest =
+    let same = (lengths-given 0 (11 ∷ 1 ∷ 8 ∷ 11 ∷ 1 ∷ []) (length id ∷ length rtr ∷ length payload ∷ length other ∷ length last ∷ []) (gives 8) made).0 in
+    let a : length id ≡ 11 = cc in
+    let b : length rtr ≡ 1 = cc in
+    let c : length payload ≡ 8 = cc in
+    let d : length other ≡ 11 = cc in
+    let e : length last ≡ 1 = cc in
     let high : length (take 4 payload) ≡ 4 = length-take-le 4 payload (omega arith) in
     let low : length (drop 4 payload) ≡ 4 = omega (arith, length-drop 4 payload) in
     let d1 = run-drawn nothing-drawn 21 id (omega arith) one e1 in
@@ -171,7 +171,7 @@ dual-standard id rtr payload other last nibble one two three four five row made 
     let d3 = run-drawn d2 16 (take 4 payload) (omega arith) three e3 in
     let d4 = run-drawn d3 5 other (omega arith) four e4 in
     let d5 = run-drawn d4 4 last (omega arith) five e5 in
-    let d6 = run-drawn d5 0 (drop 4 payload) (omega arith) row (rw same at e6) in
+    let d6 = run-drawn d5 0 (drop 4 payload) (omega arith) row (rw rest at e6) in
     record {
       words = λ digit z. row_laid d6 digit z
           ∙ or-all (laid_at digit 21 id ∷ laid_at digit 20 rtr ∷ laid_at digit 16 (take 4 payload) ∷ laid_at digit 5 other ∷ laid_at digit 4 last ∷ laid_at digit 0 (drop 4 payload) ∷ [])

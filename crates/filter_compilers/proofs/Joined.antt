@@ -3,8 +3,9 @@ use Prim.Native.Nat.{ℕ, zero, suc, ◌+◌, ◌≤◌, ◌<◌}
 use mathlib.Core.Path.{◌≡◌, refl, sym, ap, ◌∙◌}
 use mathlib.Core.Bool.{Bool, true, false, cond, not, true≢false}
 use mathlib.Core.List.{List, [], ◌∷◌, ◌++◌}
-use lib.ListN.{length, take, get_or, get_or-append}
-use lib.Seq.{get_or-append-add}
+use lib.ListN.{length, take, drop, get_or, get_or-append, length-append}
+use lib.Seq.{get_or-append-add, drop-cons, drop-length}
+use native.Mathlib.Numerals.{add-one}
 use native.Mathlib.Nat.{suc-add, zero-add}
 use native.Mathlib.Decide.{dec_lt}
 use native.Mathlib.Omega.{arith}
@@ -55,6 +56,28 @@ said-found field n p patterns r e h same =
 pub said-passed : (field n : ℕ) (p : List ℕ) (patterns : List (List ℕ)) (said : Said ℕ) → n ≡ bad_at p → length p ≤ n → said ≡ characters_of (suc field) patterns
     → said ≡ characters_of field (p ∷ patterns)
 said-passed field n p patterns said e h same = same ∙ sym (passed-field field p patterns (omega arith))
+
+-- ---- one field after the other
+module _ (k : ℕ) (patterns : List (List ℕ)) (p : List ℕ) (h : k < length patterns) (e : get_or patterns k [] ≡ p) where
+  here : characters_of k (drop k patterns) ≡ characters_of k (p ∷ drop (suc k) patterns)
+  here = ap (characters_of k) (drop-cons patterns k [] h ∙ ap (λ (q : List ℕ). q ∷ drop (suc k) patterns) e)
+
+  pub characters-next : length p ≤ bad_at p → characters_of k (drop k patterns) ≡ characters_of (k + 1) (drop (k + 1) patterns)
+  characters-next good =
+      here ∙ passed-field k p (drop (suc k) patterns) good ∙ ap (λ (j : ℕ). characters_of j (drop j patterns)) (sym (add-one k))
+
+  pub characters-found : (n : ℕ) → bad_at p ≡ n → n < length p → characters_of k (drop k patterns) ≡ refuses 5 (k ∷ n ∷ get_or p n 0 ∷ [])
+  characters-found n at bad =
+      here ∙ found-field k p (drop (suc k) patterns) (omega arith) ∙ ap (λ (i : ℕ). refuses 5 (k ∷ i ∷ get_or p i 0 ∷ [])) at
+
+pub characters-end : (k : ℕ) (patterns : List (List ℕ)) → k ≡ length patterns → characters_of k (drop k patterns) ≡ gives 8
+characters-end k patterns e = ap (characters_of k) (ap (λ (j : ℕ). drop j patterns) e ∙ drop-length patterns)
+
+-- no field is longer than all
+pub in-joined : (k : ℕ) (patterns : List (List ℕ)) → length (get_or patterns k []) ≤ length (joined patterns)
+in-joined k [] = omega arith
+in-joined zero (p ∷ patterns) = omega (arith, length-append p (joined patterns))
+in-joined (suc k) (p ∷ patterns) = omega (arith, length-append p (joined patterns), in-joined k patterns)
 
 good_none : (s : List ℕ) → all_characters s ≡ true → length s ≤ bad_at s
 good_none s e = ltb-false (bad_at s) (length s) (all-or-bad s ∙ ap not e)

@@ -1,11 +1,14 @@
 -- The lengths of patterns, judged one after the other: the first that is wrong is named, or all are right. Assumes nothing.
-use Prim.Native.Nat.{ℕ, suc}
-use mathlib.Core.Path.{◌≡◌, refl}
+use Prim.Native.Nat.{ℕ, suc, ◌+◌, ◌<◌}
+use mathlib.Core.Path.{◌≡◌, refl, ap, ◌∙◌}
 use mathlib.Core.Bool.{Bool, true, false, cond}
 use mathlib.Core.List.{List, [], ◌∷◌}
 use lib.Dec.{eqb}
+use lib.ListN.{length, get_or, drop}
+use lib.Seq.{drop-cons, drop-length}
+use native.Mathlib.Numerals.{add-one}
 use native.Mathlib.Omega.{arith}
-use borrow.Author.Tests.{eqb-true, eq-eqb}
+use borrow.Author.Tests.{eqb-true, eq-eqb, ne_eqb}
 use Rattle.laws.specs.Said.{Said, refuses, gives}
 use Rattle.filter_compilers.specs.Answers.{lengths_of}
 
@@ -37,8 +40,17 @@ lengths-given field (n ∷ ns) (l ∷ ls) rest e = cases (eqb l n) refl (lengths
     cases true q r p = (rw (eqb-true l n q, (r p).0), (r p).1)
     cases false q r p = absurd (let z : ◌≡◌ {A = ℕ} 0 1 = cc in omega arith)
 
-pub lengths-five : (a b c d e la lb lc ld le : ℕ) → lengths_of 0 (a ∷ b ∷ c ∷ d ∷ e ∷ []) (la ∷ lb ∷ lc ∷ ld ∷ le ∷ []) (gives 8) ≡ gives 8
-    → (la ≡ a) × (lb ≡ b) × (lc ≡ c) × (ld ≡ d) × (le ≡ e)
-lengths-five a b c d e la lb lc ld le h =
-    let same = (lengths-given 0 (a ∷ b ∷ c ∷ d ∷ e ∷ []) (la ∷ lb ∷ lc ∷ ld ∷ le ∷ []) (gives 8) h).0 in
-    (cc, cc, cc, cc, cc)
+-- ---- one field after the other
+pub lengths-next : (k : ℕ) (ns ls : List ℕ) (rest : Said ℕ) → k < length ns → k < length ls → get_or ls k 0 ≡ get_or ns k 0
+    → lengths_of k (drop k ns) (drop k ls) rest ≡ lengths_of (k + 1) (drop (k + 1) ns) (drop (k + 1) ls) rest
+lengths-next k ns ls rest hn hl e = rw (drop-cons ns k 0, drop-cons ls k 0, eq-eqb (get_or ls k 0) (get_or ns k 0) e, add-one)
+
+pub lengths-wrong : (k : ℕ) (ns ls : List ℕ) (rest : Said ℕ) → k < length ns → k < length ls → (get_or ls k 0 ≡ get_or ns k 0 → ⊥)
+    → lengths_of k (drop k ns) (drop k ls) rest ≡ refuses 4 (k ∷ [])
+lengths-wrong k ns ls rest hn hl n = rw (drop-cons ns k 0, drop-cons ls k 0, ne_eqb (get_or ls k 0) (get_or ns k 0) n)
+
+pub lengths-end : (k : ℕ) (ns ls : List ℕ) (rest : Said ℕ) → k ≡ length ns → k ≡ length ls → lengths_of k (drop k ns) (drop k ls) rest ≡ rest
+lengths-end k ns ls rest n l =
+    let no_width : drop k ns ≡ [] = ap (λ (j : ℕ). drop j ns) n ∙ drop-length ns in
+    let no_length : drop k ls ≡ [] = ap (λ (j : ℕ). drop j ls) l ∙ drop-length ls in
+    rw (no_width, no_length)

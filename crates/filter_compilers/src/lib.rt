@@ -2,7 +2,7 @@
 // characters as the manual draws the registers, bit 31 first; `x` stands where no field does.
 #![tactic(auto)]
 
-ghost use Rattle.std.specs.Prelude.{◌≡◌, true, false, ◌∷◌, [], ◌+◌, ◌-◌, ◌*◌, ◌/◌, ◌%◌, ◌^◌, ◌<◌, ◌≤◌, length, drop, get_or};
+ghost use Rattle.std.specs.Prelude.{◌≡◌, true, false, ◌∷◌, [], ◌+◌, ◌-◌, ◌*◌, ◌/◌, ◌%◌, ◌^◌, ◌<◌, ◌≤◌, length, drop, get_or, map};
 ghost use Rattle.std.specs.Int.Bits.{bit_and, bit_or};
 ghost use Rattle.std.proofs.Math.Seq.{paste};
 ghost use Rattle.laws.specs.Said.{gives};
@@ -16,40 +16,14 @@ ghost use Rattle.filter_compilers.specs.Answers.{lengths_of, characters_of, answ
 
 use refusals::Refusal;
 
-// The widths of a filter's fields.
-#[derive(Clone, Copy)]
-pub struct Widths {
-    pub a: usize,
-    pub b: usize,
-    pub c: usize,
-    pub d: usize,
-    pub e: usize,
-}
-
-fn judge_lengths(
-    widths: Widths,
-    a: usize,
-    b: usize,
-    c: usize,
-    d: usize,
-    e: usize,
-) -> Result<(), Refusal>
-    ensures { answer_said (λ _. 8) result ≡ lengths_of 0 (widths.a ∷ widths.b ∷ widths.c ∷ widths.d ∷ widths.e ∷ []) (a ∷ b ∷ c ∷ d ∷ e ∷ []) (gives 8) }
+// Refused by the first pattern that is not as long as its field is wide.
+fn judge_lengths<const N: usize>(lengths: [usize; N], widths: [usize; N]) -> Result<(), Refusal>
+    ensures { answer_said (λ _. 8) result ≡ lengths_of 0 widths.entry lengths.entry (gives 8) }
 {
-    if a != widths.a {
-        return Err(Refusal::PatternLength(0));
-    }
-    if b != widths.b {
-        return Err(Refusal::PatternLength(1));
-    }
-    if c != widths.c {
-        return Err(Refusal::PatternLength(2));
-    }
-    if d != widths.d {
-        return Err(Refusal::PatternLength(3));
-    }
-    if e != widths.e {
-        return Err(Refusal::PatternLength(4));
+    for field in 0..N {
+        if lengths[field] != widths[field] {
+            return Err(Refusal::PatternLength(field));
+        }
     }
     Ok(())
 }
@@ -122,57 +96,32 @@ fn read(row: [u8; 32]) -> u64
     exchanged(fours, 0xF0F0_F0F0_0F0F_0F0F, 0x0000_0000_F0F0_F0F0, 28)
 }
 
-// A byte that is no pattern character, by its field and its place there.
-fn wrong_byte(field: u8, pattern: &[u8], place: usize) -> Refusal
-    requires { (place < length pattern.now) × (length pattern.now ≤ 32) }
-    ensures { result ≡ Refusal.PatternByte field place (get_or pattern.now place 0) }
+// Refused by the first byte that is no pattern character, by its field and its place there; the row tells whether there is one.
+fn judge_characters(row: &[u8; 32], patterns: &[&[u8]]) -> Result<(), Refusal>
+    requires { (length patterns.now ≤ 5) × (length (joined (map (λ p. p.now) patterns.now)) ≤ 32)
+        × (all_characters row.now ≡ all_characters (joined (map (λ p. p.now) patterns.now))) }
+    ensures { answer_said (λ _. 8) result ≡ characters_of 0 (map (λ p. p.now) patterns.now) }
 {
-    Refusal::PatternByte(field, place as u8, pattern[place])
-}
-
-// The first byte that is no pattern character, where there is one.
-fn first_wrong(a: &[u8], b: &[u8], c: &[u8], d: &[u8], e: &[u8]) -> Refusal
-    requires { (length a.now + length b.now + length c.now + length d.now + length e.now ≤ 32)
-        × (all_characters (joined (a.now ∷ b.now ∷ c.now ∷ d.now ∷ e.now ∷ [])) ≡ false) }
-    ensures { refusal_said result ≡ characters_of 0 (a.now ∷ b.now ∷ c.now ∷ d.now ∷ e.now ∷ []) }
-{
-    let in_a = filter_characters::first_bad(a);
-    if in_a < a.len() {
-        return wrong_byte(0, a, in_a);
+    if filter_characters::all_known(row) {
+        return Ok(());
     }
-    let in_b = filter_characters::first_bad(b);
-    if in_b < b.len() {
-        return wrong_byte(1, b, in_b);
+    for field in 0..patterns.len() {
+        let pattern = patterns[field];
+        if let Some(place) = filter_characters::first_bad(pattern) {
+            return Err(Refusal::PatternByte(field as u8, place as u8, pattern[place]));
+        }
     }
-    let in_c = filter_characters::first_bad(c);
-    if in_c < c.len() {
-        return wrong_byte(2, c, in_c);
-    }
-    let in_d = filter_characters::first_bad(d);
-    if in_d < d.len() {
-        return wrong_byte(3, d, in_d);
-    }
-    let in_e = filter_characters::first_bad(e);
-    wrong_byte(4, e, in_e)
+    Ok(())
 }
 
 // The answer for fields that are drawn in a row.
-fn compile(
-    row: [u8; 32],
-    a: &[u8],
-    b: &[u8],
-    c: &[u8],
-    d: &[u8],
-    e: &[u8],
-) -> Result<[u8; 8], Refusal>
-    requires { (length a.now + length b.now + length c.now + length d.now + length e.now ≤ 32)
-        × (all_characters row ≡ all_characters (joined (a.now ∷ b.now ∷ c.now ∷ d.now ∷ e.now ∷ []))) }
-    ensures { compiled_said result ≡ answered (characters_of 0 (a.now ∷ b.now ∷ c.now ∷ d.now ∷ e.now ∷ []))
+fn compile(row: [u8; 32], patterns: &[&[u8]]) -> Result<[u8; 8], Refusal>
+    requires { (length patterns.now ≤ 5) × (length (joined (map (λ p. p.now) patterns.now)) ≤ 32)
+        × (all_characters row ≡ all_characters (joined (map (λ p. p.now) patterns.now))) }
+    ensures { compiled_said result ≡ answered (characters_of 0 (map (λ p. p.now) patterns.now))
         (registers_of (code_of (run 0 32) row) (mask_of (run 0 32) row)) }
 {
-    if !filter_characters::all_known(&row) {
-        return Err(first_wrong(a, b, c, d, e));
-    }
+    judge_characters(&row, patterns)?;
     let both = read(row);
     Ok(filter_registers::made(
         (both % 0x1_0000_0000) as u32,
@@ -188,34 +137,23 @@ pub fn single_standard(
 ) -> Result<[u8; 8], Refusal>
     ensures { compiled_said result ≡ compile_of single_standard (id.now ∷ rtr.now ∷ first.now ∷ second.now ∷ []) }
 {
-    let widths = Widths {
-        a: 11,
-        b: 1,
-        c: 8,
-        d: 8,
-        e: 0,
-    };
-    judge_lengths(widths, id.len(), rtr.len(), first.len(), second.len(), 0)?;
+    judge_lengths(
+        [id.len(), rtr.len(), first.len(), second.len()],
+        [11, 1, 8, 8],
+    )?;
     // identifier 31 to 21, RTR 20, data bytes 15 to 8 and 7 to 0
     let identified = drawn(drawn([b'x'; 32], 21, id), 20, rtr);
     let row = drawn(drawn(identified, 8, first), 0, second);
-    compile(row, id, rtr, first, second, b"")
+    compile(row, &[id, rtr, first, second])
 }
 
 pub fn single_extended(id: &[u8], rtr: &[u8]) -> Result<[u8; 8], Refusal>
     ensures { compiled_said result ≡ compile_of single_extended (id.now ∷ rtr.now ∷ []) }
 {
-    let widths = Widths {
-        a: 29,
-        b: 1,
-        c: 0,
-        d: 0,
-        e: 0,
-    };
-    judge_lengths(widths, id.len(), rtr.len(), 0, 0, 0)?;
+    judge_lengths([id.len(), rtr.len()], [29, 1])?;
     // identifier 31 to 3, RTR 2
     let row = drawn(drawn([b'x'; 32], 3, id), 2, rtr);
-    compile(row, id, rtr, b"", b"", b"")
+    compile(row, &[id, rtr])
 }
 
 pub fn dual_standard(
@@ -227,20 +165,15 @@ pub fn dual_standard(
 ) -> Result<[u8; 8], Refusal>
     ensures { compiled_said result ≡ compile_of dual_standard (first_id.now ∷ first_rtr.now ∷ first_payload.now ∷ second_id.now ∷ second_rtr.now ∷ []) }
 {
-    let widths = Widths {
-        a: 11,
-        b: 1,
-        c: 8,
-        d: 11,
-        e: 1,
-    };
     judge_lengths(
-        widths,
-        first_id.len(),
-        first_rtr.len(),
-        first_payload.len(),
-        second_id.len(),
-        second_rtr.len(),
+        [
+            first_id.len(),
+            first_rtr.len(),
+            first_payload.len(),
+            second_id.len(),
+            second_rtr.len(),
+        ],
+        [11, 1, 8, 11, 1],
     )?;
     // identifier 31 to 21, RTR 20, high nibble 19 to 16; identifier 15 to 5, RTR 4, low nibble 3 to 0
     let identified = drawn(drawn([b'x'; 32], 21, first_id), 20, first_rtr);
@@ -249,26 +182,15 @@ pub fn dual_standard(
     let row = drawn(second, 0, &first_payload[4..]);
     compile(
         row,
-        first_id,
-        first_rtr,
-        first_payload,
-        second_id,
-        second_rtr,
+        &[first_id, first_rtr, first_payload, second_id, second_rtr],
     )
 }
 
 pub fn dual_extended(first: &[u8], second: &[u8]) -> Result<[u8; 8], Refusal>
     ensures { compiled_said result ≡ compile_of dual_extended (first.now ∷ second.now ∷ []) }
 {
-    let widths = Widths {
-        a: 16,
-        b: 16,
-        c: 0,
-        d: 0,
-        e: 0,
-    };
-    judge_lengths(widths, first.len(), second.len(), 0, 0, 0)?;
+    judge_lengths([first.len(), second.len()], [16, 16])?;
     // 31 to 16, 15 to 0
     let row = drawn(drawn([b'x'; 32], 16, first), 0, second);
-    compile(row, first, second, b"", b"", b"")
+    compile(row, &[first, second])
 }

@@ -1,42 +1,35 @@
 -- `filter_compilers::dual_standard` meets its contract: the row that its fields are drawn in shows its patterns. Assumes nothing.
 use mathlib.Core.Path.{sym, ◌∙◌}
 use mathlib.Core.List.{[], ◌∷◌}
-use lib.ListN.{length}
 use native.Mathlib.Omega.{arith}
 use Rattle.std.proofs.lemmas.Result.{err_from_is_err_and}
 use Rattle.laws.proofs.Laid.{rest-is}
 use Rattle.filter_compilers.specs.Table.{dual_standard, fields_of}
-use Rattle.filter_compilers.specs.Answers.{compile_of}
-use Rattle.filter_compilers.proofs.Lengths.{lengths-five}
 use Rattle.filter_compilers.proofs.Fields.{dual-standard}
-use Rattle.filter_compilers.proofs.Answers.{length-refused, all_made}
+use Rattle.filter_compilers.proofs.Answers.{length-refused, all_made, short}
 use Rattle.filter_compilers.proofs.dual_standard.Goals as goal
 
 pub compile-requires : goal.compile-requires
 compile-requires c =
     let args = c.args in
-    let made = sym c.in_ok-judge_lengths.ensures in (
-      omega (arith, lengths-five 11 1 8 11 1 (length args.first_id.now) (length args.first_rtr.now) (length args.first_payload.now) (length args.second_id.now) (length args.second_rtr.now) made),
-      (dual-standard args.first_id.now args.first_rtr.now args.first_payload.now args.second_id.now args.second_rtr.now _ _ _ _ _ _ _ made
-          c.drawn.ensures c.drawn-identified.ensures
-          c.drawn-first.ensures c.drawn-2.ensures
-          c.drawn-second.ensures c.drawn-row.ensures (rest-is 4 args.first_payload.now)).good,
-    )
+    let shows = dual-standard args.first_id.now args.first_rtr.now args.first_payload.now args.second_id.now args.second_rtr.now _ _ _ _ _ _ _ (sym c.in_ok-judge_lengths.ensures)
+    c.drawn.ensures c.drawn-identified.ensures
+    c.drawn-first.ensures c.drawn-2.ensures
+    c.drawn-second.ensures c.drawn-row.ensures (rest-is 4 args.first_payload.now) in
+    (omega arith, short _ _ _ shows, shows.good)
 
 pub returns-in_err-judge_lengths : goal.returns-in_err-judge_lengths
-unfolding compile_of fields_of
+unfolding fields_of
 returns-in_err-judge_lengths c =
     let args = c.args in
     let p = err_from_is_err_and c.from_residual.result c.from_residual.ensures.1 in
-    rw (p.1, p.2) (length-refused 11 1 8 11 1 args.first_id.now args.first_rtr.now args.first_payload.now args.second_id.now args.second_rtr.now _ _ _
-    (sym c.in_err-judge_lengths.ensures))
+    rw (p.1, p.2) (length-refused dual_standard (args.first_id.now ∷ args.first_rtr.now ∷ args.first_payload.now ∷ args.second_id.now ∷ args.second_rtr.now ∷ []) _ c.in_err-judge_lengths.ensures)
 
 pub returns : goal.returns
 returns c =
     let args = c.args in
-    let made = sym c.in_ok-judge_lengths.ensures in
-    c.compile.ensures ∙ all_made dual_standard (args.first_id.now ∷ args.first_rtr.now ∷ args.first_payload.now ∷ args.second_id.now ∷ args.second_rtr.now ∷ []) _
-    (dual-standard args.first_id.now args.first_rtr.now args.first_payload.now args.second_id.now args.second_rtr.now _ _ _ _ _ _ _ made
+    let shows = dual-standard args.first_id.now args.first_rtr.now args.first_payload.now args.second_id.now args.second_rtr.now _ _ _ _ _ _ _ (sym c.in_ok-judge_lengths.ensures)
     c.drawn.ensures c.drawn-identified.ensures
     c.drawn-first.ensures c.drawn-2.ensures
-    c.drawn-second.ensures c.drawn-row.ensures (rest-is 4 args.first_payload.now))
+    c.drawn-second.ensures c.drawn-row.ensures (rest-is 4 args.first_payload.now) in
+    c.compile.ensures ∙ all_made dual_standard (args.first_id.now ∷ args.first_rtr.now ∷ args.first_payload.now ∷ args.second_id.now ∷ args.second_rtr.now ∷ []) _ shows
