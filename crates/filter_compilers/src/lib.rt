@@ -34,8 +34,8 @@ fn drawn(row: [u8; 32], low: usize, characters: &[u8]) -> [u8; 32]
     ensures { result ≡ paste row (32 - low - length characters.now) characters.now (length characters.now) }
 {
     let mut row = row;
-    let at = 32 - low - characters.len();
-    text::put_text(&mut row, at, characters);
+    let end = 32 - low;
+    row[end - characters.len()..end].copy_from_slice(characters);
     row
 }
 
