@@ -1,23 +1,33 @@
 -- The answers from code and mask, each from the tests that lead to it. Assumes nothing.
 use Prim.Native.Nat.{ℕ, suc}
-use mathlib.Core.Path.{◌≡◌, refl, ap, ◌∙◌}
+use mathlib.Core.Path.{◌≡◌, refl, sym, ap, ◌∙◌}
 use mathlib.Core.Bool.{Bool, true, false, cond, ◌&&◌, false≢true}
 use mathlib.Core.List.{List, [], ◌∷◌}
 use lib.Dec.{leb}
 use lib.ListN.{length, replicate}
 use Rattle.laws.specs.Said.{Said, refuses, gives, accepted}
 use Rattle.laws.proofs.Bools.{both_true}
+use Rattle.refusals.specs.Table.{refusal_said}
+use Rattle.refusals.specs.declared.Refusal.{Refusal}
 use Rattle.identifiers.specs.Limits.{limit_of}
 use Rattle.filter_registers.specs.Registers.{registers_of}
 use Rattle.filter_compilers.specs.Table.{Filter, single_standard, single_extended, dual_standard, dual_extended, fields_of}
 use Rattle.filter_types.specs.Words.{laid_of}
 use Rattle.filter_types.specs.Answers.{Held, identifier, number, held_by, all_within, limits_kept, code_mask_of}
-use Rattle.filter_types.specs.Within.{both_within}
 
-pub code-mask-refused : (filter : Filter) (codes masks : List ℕ) → limits_kept filter codes masks ≡ false
-    → ◌≡◌ {A = Said ℕ × List ℕ} (refuses 1 [], replicate 8 0) (code_mask_of filter codes masks)
+-- the limits judged
+pub limits-broken : (kept : Bool) (f : Refusal) → refusal_said {A = ℕ} f ≡ cond kept (gives 8) (refuses 1 []) → (kept ≡ false) × (refusal_said {A = ℕ} f ≡ refuses 1 [])
+limits-broken true f e = absurd (false≢true (ap accepted e))
+limits-broken false f e = (refl, e)
+
+pub limits-met : (kept : Bool) → gives 8 ≡ cond {A = Said ℕ} kept (gives 8) (refuses 1 []) → kept ≡ true
+limits-met true e = refl
+limits-met false e = absurd (false≢true (sym (ap accepted e)))
+
+pub code-mask-refused : (filter : Filter) (codes masks : List ℕ) (f : Refusal) → limits_kept filter codes masks ≡ false → refusal_said {A = ℕ} f ≡ refuses 1 []
+    → ◌≡◌ {A = Said ℕ × List ℕ} (refusal_said f, replicate 8 0) (code_mask_of filter codes masks)
 unfolding code_mask_of
-code-mask-refused filter codes masks e = rw e
+code-mask-refused filter codes masks f e said = rw (e, said)
 
 pub code-mask-made : (filter : Filter) (codes masks registers : List ℕ) (code mask : ℕ) → limits_kept filter codes masks ≡ true
     → registers ≡ registers_of code mask → code ≡ laid_of (fields_of filter) codes → mask ≡ laid_of (fields_of filter) masks
@@ -38,12 +48,12 @@ two-both true false false mask' = refl
 two-both false mask code' mask' = refl
 
 module _ (format : Bool) (code mask : ℕ) where
-  pub one_kept : ((leb code (limit_of format) && true) && (leb mask (limit_of format) && true)) ≡ both_within format code mask
+  pub one_kept : ((leb code (limit_of format) && true) && (leb mask (limit_of format) && true)) ≡ (leb code (limit_of format) && leb mask (limit_of format))
   one_kept = one-both (leb code (limit_of format)) (leb mask (limit_of format))
 
   pub two-kept : (code' mask' : ℕ)
       → ((leb code (limit_of format) && (leb code' (limit_of format) && true)) && (leb mask (limit_of format) && (leb mask' (limit_of format) && true)))
-      ≡ (both_within format code mask && both_within format code' mask')
+      ≡ ((leb code (limit_of format) && leb mask (limit_of format)) && (leb code' (limit_of format) && leb mask' (limit_of format)))
   two-kept code' mask' = two-both (leb code (limit_of format)) (leb mask (limit_of format)) (leb code' (limit_of format)) (leb mask' (limit_of format))
 
 -- ---- what is accepted has a number for each field

@@ -10,6 +10,7 @@ use lib.Pow.{pow-add, pow_mono, pow_pos, shl_lt, shr-shr, mod-pow-add}
 use native.Mathlib.Decide.{ℕ_discrete}
 use native.Mathlib.Nat.{add-mul, mul_assoc, mod-eq_of_lt, mod-lt, mod-one, zero-mul, zero-add, suc-add, add_comm}
 use native.Mathlib.Omega.{arith}
+use mir.Val.{bool_byte}
 use Rattle.laws.specs.Row.{bit}
 use Rattle.laws.specs.Bits.{bit_at}
 use Rattle.laws.proofs.Bits.{bit-lt}
@@ -21,6 +22,11 @@ use Rattle.filter_types.specs.Words.{written, written_in, laid_of}
 pub flag-lt : (b : Bool) → bit b < 2
 flag-lt true = omega arith
 flag-lt false = omega arith
+
+-- as the library converts it
+pub flag-is : (b : Bool) → bool_byte b ≡ bit b
+flag-is true = refl
+flag-is false = refl
 
 pub one-digit : (d : ℕ) → d < 2 → one (48 + d) ≡ d
 unfolding one

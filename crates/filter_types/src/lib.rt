@@ -1,39 +1,32 @@
 // Filters: the acceptance registers of the four filters, from patterns and from code and mask.
 #![tactic(auto)]
 
-ghost use Rattle.std.specs.Prelude.{◌≡◌, true, false, ◌∷◌, [], ◌<◌};
+ghost use Rattle.std.specs.Prelude.{◌≡◌, ◌∷◌, [], ℕ, ◌<◌, cond, ◌&&◌};
 ghost use Rattle.laws.specs.Row.{bit};
+ghost use Rattle.laws.specs.Said.{gives, refuses};
+ghost use Rattle.refusals.specs.Table.{answer_said};
+ghost use Rattle.identifiers.specs.Limits.{within_limit};
 ghost use Rattle.filter_registers.specs.Answers.{compiled_said};
 ghost use Rattle.filter_compilers.specs.Table.{single_standard, single_extended, dual_standard, dual_extended, fields_of};
 ghost use Rattle.filter_compilers.specs.Answers.{compile_of};
 ghost use Rattle.filter_types.specs.Words.{laid_of};
 ghost use Rattle.filter_types.specs.Answers.{code_mask_of};
-ghost use Rattle.filter_types.specs.Within.{both_within};
 
 use identifiers::{ExtendedId, Id, StandardId};
 use refusals::Refusal;
-
-fn standard_raw(id: StandardId) -> u32
-    requires { id.0 < 2048 }
-    ensures { (result ≡ id.0) × (result < 2048) }
-{
-    id.0 as u32
-}
 
 fn single_standard_word(id: StandardId, rtr: bool, first: u8, second: u8) -> u32
     requires { id.0 < 2048 }
     ensures { result ≡ laid_of (fields_of single_standard) (id.0 ∷ bit rtr ∷ first ∷ second ∷ []) }
 {
-    standard_raw(id) * 0x20_0000
-        + (octets::wide(octets::one_bit(rtr)) * 0x10_0000
-            + (octets::wide(first) * 0x100 + octets::wide(second)))
+    (u32::from(id.0) << 21) + (u32::from(rtr) << 20) + (u32::from(first) << 8) + u32::from(second)
 }
 
 fn single_extended_word(id: ExtendedId, rtr: bool) -> u32
     requires { id.0 < 0x2000_0000 }
     ensures { result ≡ laid_of (fields_of single_extended) (id.0 ∷ bit rtr ∷ []) }
 {
-    id.0 * 8 + octets::wide(octets::one_bit(rtr)) * 4
+    (id.0 << 3) + (u32::from(rtr) << 2)
 }
 
 fn dual_standard_word(
@@ -46,47 +39,38 @@ fn dual_standard_word(
     requires { (first.0 < 2048) × (second.0 < 2048) }
     ensures { result ≡ laid_of (fields_of dual_standard) (first.0 ∷ bit first_rtr ∷ payload ∷ second.0 ∷ bit second_rtr ∷ []) }
 {
-    let high = octets::wide(payload) / 16;
-    let low = octets::wide(payload) % 16;
-    let upper = standard_raw(first) * 0x20_0000
-        + (octets::wide(octets::one_bit(first_rtr)) * 0x10_0000 + high * 0x1_0000);
-    upper + (standard_raw(second) * 0x20 + (octets::wide(octets::one_bit(second_rtr)) * 0x10 + low))
+    let high = u32::from(payload / 16);
+    let low = u32::from(payload % 16);
+    let upper = (u32::from(first.0) << 21) + (u32::from(first_rtr) << 20) + (high << 16);
+    upper + (u32::from(second.0) << 5) + (u32::from(second_rtr) << 4) + low
 }
 
 fn dual_extended_word(first: u16, second: u16) -> u32
     ensures { result ≡ laid_of (fields_of dual_extended) (first ∷ second ∷ []) }
 {
-    (first as u32) * 0x1_0000 + (second as u32)
+    (u32::from(first) << 16) + u32::from(second)
 }
 
-fn standard_within(code: StandardId, mask: StandardId) -> bool
-    ensures { result ≡ both_within false code.0 mask.0 }
+// Refused where the code or the mask of an identifier is above its limit.
+fn judge_limits(code: Id, mask: Id) -> Result<(), Refusal>
+    ensures { answer_said {B = ℕ} (λ _. 8) result ≡ cond (within_limit code && within_limit mask) (gives 8) (refuses 1 []) }
 {
-    if !Id::Standard(code).within_limit() {
-        return false;
+    if code.within_limit() && mask.within_limit() {
+        return Ok(());
     }
-    Id::Standard(mask).within_limit()
+    Err(Refusal::IdentifierAboveLimit)
 }
 
-fn extended_within(code: ExtendedId, mask: ExtendedId) -> bool
-    ensures { result ≡ both_within true code.0 mask.0 }
-{
-    if !Id::Extended(code).within_limit() {
-        return false;
-    }
-    Id::Extended(mask).within_limit()
-}
-
-#[derive(Clone, Copy)]
+#[derive(Clone, Copy, Debug, PartialEq, Eq)]
 pub struct SingleStandardFilter;
 
-#[derive(Clone, Copy)]
+#[derive(Clone, Copy, Debug, PartialEq, Eq)]
 pub struct SingleExtendedFilter;
 
-#[derive(Clone, Copy)]
+#[derive(Clone, Copy, Debug, PartialEq, Eq)]
 pub struct DualStandardFilter;
 
-#[derive(Clone, Copy)]
+#[derive(Clone, Copy, Debug, PartialEq, Eq)]
 pub struct DualExtendedFilter;
 
 impl SingleStandardFilter {
@@ -109,9 +93,7 @@ impl SingleStandardFilter {
         ensures { compiled_said result ≡ code_mask_of single_standard
             (id_code.0 ∷ bit rtr_code ∷ first_code ∷ second_code ∷ []) (id_mask.0 ∷ bit rtr_mask ∷ first_mask ∷ second_mask ∷ []) }
     {
-        if !standard_within(id_code, id_mask) {
-            return Err(Refusal::IdentifierAboveLimit);
-        }
+        judge_limits(Id::Standard(id_code), Id::Standard(id_mask))?;
         Ok(filter_registers::made(
             single_standard_word(id_code, rtr_code, first_code, second_code),
             single_standard_word(id_mask, rtr_mask, first_mask, second_mask),
@@ -135,9 +117,7 @@ impl SingleExtendedFilter {
         ensures { compiled_said result ≡ code_mask_of single_extended
             (id_code.0 ∷ bit rtr_code ∷ []) (id_mask.0 ∷ bit rtr_mask ∷ []) }
     {
-        if !extended_within(id_code, id_mask) {
-            return Err(Refusal::IdentifierAboveLimit);
-        }
+        judge_limits(Id::Extended(id_code), Id::Extended(id_mask))?;
         Ok(filter_registers::made(
             single_extended_word(id_code, rtr_code),
             single_extended_word(id_mask, rtr_mask),
@@ -174,12 +154,8 @@ impl DualStandardFilter {
             (first_id_code.0 ∷ bit first_rtr_code ∷ first_payload_code ∷ second_id_code.0 ∷ bit second_rtr_code ∷ [])
             (first_id_mask.0 ∷ bit first_rtr_mask ∷ first_payload_mask ∷ second_id_mask.0 ∷ bit second_rtr_mask ∷ []) }
     {
-        if !standard_within(first_id_code, first_id_mask) {
-            return Err(Refusal::IdentifierAboveLimit);
-        }
-        if !standard_within(second_id_code, second_id_mask) {
-            return Err(Refusal::IdentifierAboveLimit);
-        }
+        judge_limits(Id::Standard(first_id_code), Id::Standard(first_id_mask))?;
+        judge_limits(Id::Standard(second_id_code), Id::Standard(second_id_mask))?;
         Ok(filter_registers::made(
             dual_standard_word(
                 first_id_code,
