@@ -5,7 +5,7 @@ use Prim.Native.Nat.{ℕ, zero, suc, ◌+◌, ◌*◌, ◌/◌, ◌%◌, ◌^◌
 use mathlib.Core.Path.{◌≡◌, refl, sym, ap, ap₂, ◌∙◌, subst}
 use mathlib.Core.Bool.{Bool, true, false, cond, ◌&&◌}
 use mathlib.Core.List.{List, [], ◌∷◌}
-use lib.Bits.{bit_and, bit_or, or_comm, or_zero_r, or_shr, or_mod, or_block, or_lt, and_le_l}
+use lib.Bits.{bit_and, bit_or, or_comm, or_zero_r, or_shr, or_mod, or_block, or_shifted, or_lt, and_le_l}
 use lib.Dec.{T, eqb, eqb→eq}
 use lib.ListN.{length, drop, get_or}
 use native.Mathlib.Decide.{ℕ_discrete}
@@ -14,7 +14,9 @@ use lib.Pow.{pow_pos}
 use lib.Seq.{drop-drop, drop-cons}
 use native.Mathlib.Numerals.{add-one}
 use native.Mathlib.Omega.{arith}
+use Rattle.std.specs.Int.{w64, from_be_bytes}
 use Rattle.laws.specs.Bits.{bit_at}
+use Rattle.laws.specs.Tabulate.{part}
 use Rattle.laws.proofs.Bits.{bit-or, bit-and, bit-lt, bit-ext}
 use Rattle.laws.proofs.Bools.{both_left, both_right}
 use Rattle.filter_characters.specs.Characters.{is_character, all_characters}
@@ -154,6 +156,20 @@ module _ (f : ℕ → ℕ) (F : Keeps f) where
 abbrev pub eight_places : List ℕ
 eight_places = 56 ∷ 48 ∷ 40 ∷ 32 ∷ 24 ∷ 16 ∷ 8 ∷ 0 ∷ []
 
+-- bytes that share no bit
+or-bytes : (a b c d e f g h : ℕ) → a < 256 → b < 256 → c < 256 → d < 256 → e < 256 → f < 256 → g < 256 → h < 256
+    → a * 2 ^ 56 + b * 2 ^ 48 + c * 2 ^ 40 + d * 2 ^ 32 + e * 2 ^ 24 + f * 2 ^ 16 + g * 2 ^ 8 + h
+    ≡ bit_or (a * 2 ^ 56) (bit_or (b * 2 ^ 48) (bit_or (c * 2 ^ 40) (bit_or (d * 2 ^ 32) (bit_or (e * 2 ^ 24) (bit_or (f * 2 ^ 16) (bit_or (g * 2 ^ 8) h))))))
+or-bytes a b c d e f g h ha hb hc hd he hf hg hh =
+    let two : bit_or (g * 2 ^ 8) h ≡ g * 2 ^ 8 + h = or_shifted g 8 h (omega arith) in
+    let three : bit_or (f * 2 ^ 16) (bit_or (g * 2 ^ 8) h) ≡ f * 2 ^ 16 + (g * 2 ^ 8 + h) = ap (bit_or (f * 2 ^ 16)) two ∙ or_shifted f 16 _ (omega arith) in
+    let four : bit_or (e * 2 ^ 24) (bit_or (f * 2 ^ 16) (bit_or (g * 2 ^ 8) h)) ≡ e * 2 ^ 24 + (f * 2 ^ 16 + (g * 2 ^ 8 + h)) = ap (bit_or (e * 2 ^ 24)) three ∙ or_shifted e 24 _ (omega arith) in
+    let five = ap (bit_or (d * 2 ^ 32)) four ∙ or_shifted d 32 (e * 2 ^ 24 + (f * 2 ^ 16 + (g * 2 ^ 8 + h))) (omega arith) in
+    let six = ap (bit_or (c * 2 ^ 40)) five ∙ or_shifted c 40 (d * 2 ^ 32 + (e * 2 ^ 24 + (f * 2 ^ 16 + (g * 2 ^ 8 + h)))) (omega arith) in
+    let seven = ap (bit_or (b * 2 ^ 48)) six ∙ or_shifted b 48 (c * 2 ^ 40 + (d * 2 ^ 32 + (e * 2 ^ 24 + (f * 2 ^ 16 + (g * 2 ^ 8 + h))))) (omega arith) in
+    let eight = ap (bit_or (a * 2 ^ 56)) seven ∙ or_shifted a 56 (b * 2 ^ 48 + (c * 2 ^ 40 + (d * 2 ^ 32 + (e * 2 ^ 24 + (f * 2 ^ 16 + (g * 2 ^ 8 + h)))))) (omega arith) in
+    omega (arith, eight)
+
 module _ (row : List ℕ) where
   next : (p i j : ℕ) (ps : List ℕ) → i < length row → j ≡ i + 1 → word_of (λ c. c) (p ∷ ps) (drop i row) ≡ bit_or (get_or row i 0 * 2 ^ p) (word_of (λ c. c) ps (drop j row))
   unfolding word_of
@@ -161,23 +177,29 @@ module _ (row : List ℕ) where
       ap (word_of (λ c. c) (p ∷ ps)) (drop-cons row i 0 h)
       ∙ ap (λ (k : ℕ). bit_or (get_or row i 0 * 2 ^ p) (word_of (λ c. c) ps (drop k row))) (sym (e ∙ add-one i))
 
-  pub eight-word : (i a b c d e f g h : ℕ) → i + 8 ≤ length row
-      → a ≡ get_or row i 0 → b ≡ get_or row (i + 1) 0 → c ≡ get_or row (i + 2) 0 → d ≡ get_or row (i + 3) 0
-      → e ≡ get_or row (i + 4) 0 → f ≡ get_or row (i + 5) 0 → g ≡ get_or row (i + 6) 0 → h ≡ get_or row (i + 7) 0
-      → bit_or (a * 2 ^ 56) (bit_or (b * 2 ^ 48) (bit_or (c * 2 ^ 40) (bit_or (d * 2 ^ 32) (bit_or (e * 2 ^ 24) (bit_or (f * 2 ^ 16) (bit_or (g * 2 ^ 8) h))))))
+  -- the bytes from a place on
+  eight-bytes : (i : ℕ) → i + 8 ≤ length row
+      → bit_or (get_or row i 0 * 2 ^ 56) (bit_or (get_or row (i + 1) 0 * 2 ^ 48) (bit_or (get_or row (i + 2) 0 * 2 ^ 40) (bit_or (get_or row (i + 3) 0 * 2 ^ 32)
+      (bit_or (get_or row (i + 4) 0 * 2 ^ 24) (bit_or (get_or row (i + 5) 0 * 2 ^ 16) (bit_or (get_or row (i + 6) 0 * 2 ^ 8) (get_or row (i + 7) 0)))))))
       ≡ word_of (λ c. c) eight_places (drop i row)
   unfolding word_of
-  eight-word i a b c d e f g h room ea eb ec ed ee ef eg eh =
+  eight-bytes i room =
       sym (
       next 56 i (i + 1) (drop 1 eight_places) (omega arith) (omega arith)
-      ∙ ap₂ (λ (x w : ℕ). bit_or (x * 2 ^ 56) w) (sym ea) (next 48 (i + 1) (i + 2) (drop 2 eight_places) (omega arith) (omega arith)
-      ∙ ap₂ (λ (x w : ℕ). bit_or (x * 2 ^ 48) w) (sym eb) (next 40 (i + 2) (i + 3) (drop 3 eight_places) (omega arith) (omega arith)
-      ∙ ap₂ (λ (x w : ℕ). bit_or (x * 2 ^ 40) w) (sym ec) (next 32 (i + 3) (i + 4) (drop 4 eight_places) (omega arith) (omega arith)
-      ∙ ap₂ (λ (x w : ℕ). bit_or (x * 2 ^ 32) w) (sym ed) (next 24 (i + 4) (i + 5) (drop 5 eight_places) (omega arith) (omega arith)
-      ∙ ap₂ (λ (x w : ℕ). bit_or (x * 2 ^ 24) w) (sym ee) (next 16 (i + 5) (i + 6) (drop 6 eight_places) (omega arith) (omega arith)
-      ∙ ap₂ (λ (x w : ℕ). bit_or (x * 2 ^ 16) w) (sym ef) (next 8 (i + 6) (i + 7) (drop 7 eight_places) (omega arith) (omega arith)
-      ∙ ap₂ (λ (x w : ℕ). bit_or (x * 2 ^ 8) w) (sym eg) (next 0 (i + 7) (i + 8) (drop 8 eight_places) (omega arith) (omega arith)
-      ∙ or_zero_r (get_or row (i + 7) 0 * 1) ∙ mul-one (get_or row (i + 7) 0) ∙ sym eh))))))))
+      ∙ ap (λ (w : ℕ). bit_or (get_or row i 0 * 2 ^ 56) w) (next 48 (i + 1) (i + 2) (drop 2 eight_places) (omega arith) (omega arith)
+      ∙ ap (λ (w : ℕ). bit_or (get_or row (i + 1) 0 * 2 ^ 48) w) (next 40 (i + 2) (i + 3) (drop 3 eight_places) (omega arith) (omega arith)
+      ∙ ap (λ (w : ℕ). bit_or (get_or row (i + 2) 0 * 2 ^ 40) w) (next 32 (i + 3) (i + 4) (drop 4 eight_places) (omega arith) (omega arith)
+      ∙ ap (λ (w : ℕ). bit_or (get_or row (i + 3) 0 * 2 ^ 32) w) (next 24 (i + 4) (i + 5) (drop 5 eight_places) (omega arith) (omega arith)
+      ∙ ap (λ (w : ℕ). bit_or (get_or row (i + 4) 0 * 2 ^ 24) w) (next 16 (i + 5) (i + 6) (drop 6 eight_places) (omega arith) (omega arith)
+      ∙ ap (λ (w : ℕ). bit_or (get_or row (i + 5) 0 * 2 ^ 16) w) (next 8 (i + 6) (i + 7) (drop 7 eight_places) (omega arith) (omega arith)
+      ∙ ap (λ (w : ℕ). bit_or (get_or row (i + 6) 0 * 2 ^ 8) w) (next 0 (i + 7) (i + 8) (drop 8 eight_places) (omega arith) (omega arith)
+      ∙ or_zero_r (get_or row (i + 7) 0 * 1) ∙ mul-one (get_or row (i + 7) 0)))))))))
+
+  pub eight-word : (i : ℕ) → i + 8 ≤ length row → ((k : ℕ) → get_or row k 0 < 256) → from_be_bytes w64 (part row i 8) ≡ word_of (λ c. c) eight_places (drop i row)
+  eight-word i room small =
+      rw (add-zero i)
+      (or-bytes _ _ _ _ _ _ _ _ (small i) (small (i + 1)) (small (i + 2)) (small (i + 3)) (small (i + 4)) (small (i + 5)) (small (i + 6)) (small (i + 7))
+      ∙ eight-bytes i room)
 
 good-drop : (n : ℕ) (cs : List ℕ) → T (all_characters cs) → T (all_characters (drop n cs))
 good-drop zero cs t = t

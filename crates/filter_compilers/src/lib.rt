@@ -39,31 +39,12 @@ fn drawn(row: [u8; 32], low: usize, characters: &[u8]) -> [u8; 32]
     row
 }
 
-fn wide(byte: u8) -> u64
-    ensures { (result ≡ byte) × (result < 256) }
-{
-    byte as u64
-}
-
-fn byte(row: &[u8; 32], at: usize) -> u64
-    requires { at < 32 }
-    ensures { (result ≡ get_or row.now at 0) × (result < 256) }
-{
-    wide(row[at])
-}
-
 // Eight characters as the bytes of one word, the first on top.
 fn eight(row: &[u8; 32], at: usize) -> u64
-    requires { (at + 8 ≤ 32) × (length row.now ≡ 32) }
+    requires { at + 8 ≤ 32 }
     ensures { result ≡ word_of (λ c. c) (56 ∷ 48 ∷ 40 ∷ 32 ∷ 24 ∷ 16 ∷ 8 ∷ 0 ∷ []) (drop at row.now) }
 {
-    (byte(row, at) * 0x100_0000_0000_0000)
-        | ((byte(row, at + 1) * 0x1_0000_0000_0000)
-            | ((byte(row, at + 2) * 0x100_0000_0000)
-                | ((byte(row, at + 3) * 0x1_0000_0000)
-                    | ((byte(row, at + 4) * 0x100_0000)
-                        | ((byte(row, at + 5) * 0x1_0000)
-                            | ((byte(row, at + 6) * 0x100) | byte(row, at + 7)))))))
+    u64::from_be_bytes(octets::array_at(row, at))
 }
 
 // Of each byte that is a pattern character: bit 0, set in `1` alone, and at bit 4 its bit 6, set in `x` alone.

@@ -1,10 +1,16 @@
 -- `filter_compilers::eight` meets its contract: each byte at its place. Assumes nothing.
+use Prim.Native.Nat.{◌+◌, ◌≤◌}
+use mathlib.Core.Path.{ap, ◌∙◌}
+use lib.ListN.{length}
 use native.Mathlib.Omega.{arith}
+use Rattle.std.specs.Int.{w64, from_be_bytes}
+use Rattle.octets.proofs.Part.{part-within}
 use Rattle.filter_compilers.proofs.Turned.{eight-word}
 use Rattle.filter_compilers.proofs.eight.Goals as goal
 
 pub returns : goal.returns
 returns c =
-    eight-word c.args.row.now c.args.at _ _ _ _ _ _ _ _ (omega (arith, c.requires.0, c.requires.1))
-    c.byte.ensures.0 c.byte-2.ensures.0 c.byte-3.ensures.0 c.byte-4.ensures.0
-    c.byte-5.ensures.0 c.byte-6.ensures.0 c.byte-7.ensures.0 c.byte-8.ensures.0
+    let room : c.args.at + 8 ≤ length c.args.row.now = omega (arith, c.requires, c.told-row) in
+    c.from_be_bytes.ensures
+    ∙ ap (from_be_bytes w64) (c.array_at.ensures ∙ part-within 8 c.args.at c.args.row.now room)
+    ∙ eight-word c.args.row.now c.args.at room c.fits-row
