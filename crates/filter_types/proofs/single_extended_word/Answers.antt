@@ -6,5 +6,11 @@ use Rattle.filter_types.proofs.single_extended_word.Goals as goal
 
 pub returns : goal.returns
 returns c =
-    omega (arith, c.from.ensures, c.requires, flag-is c.args.rtr, flag-lt c.args.rtr,
-    laid-single-extended c.args.id.0 (bit c.args.rtr) c.requires (flag-lt c.args.rtr))
+    omega (
+      arith,
+      c.from.ensures,
+      c.requires,
+      flag-is c.args.rtr,
+      flag-lt c.args.rtr,
+      laid-single-extended c.args.id.0 (bit c.args.rtr) c.requires (flag-lt c.args.rtr),
+    )
