@@ -2,21 +2,10 @@
 #![tactic(auto)]
 
 ghost use Rattle.std.specs.Prelude.{◌≡◌};
-ghost use Rattle.filter_matcher.specs.Words.{match_of, matching_said};
+ghost use Rattle.filter_matcher.specs.Words.{match_of};
 ghost use Rattle.abi_answers.specs.Answers.{answer_of, sized, flag_said};
 
 use abi_answers::Answer;
-use filter_matcher::Matching;
-
-fn matching_answer(matching: Matching) -> Answer
-    ensures { result ≡ answer_of (flag_said (matching_said matching)) }
-{
-    match matching {
-        Matching::Accepted => abi_answers::given(1),
-        Matching::NotAccepted => abi_answers::given(0),
-        Matching::Refused(refusal) => abi_answers::refused(refusal),
-    }
-}
 
 #[unsafe(no_mangle)]
 pub extern "C" fn chherbolat_matcher_accepts(kind: u8, registers: &[u8], frame: &[u8]) -> Answer
@@ -28,7 +17,10 @@ pub extern "C" fn chherbolat_matcher_accepts(kind: u8, registers: &[u8], frame: 
     if frame.len() != 13 {
         return abi_answers::wrong_length(2);
     }
-    let filter = abi_answers::registers(registers);
-    let bytes = abi_answers::buffer(frame);
-    matching_answer(filter_matcher::accepts(kind, &filter, &bytes))
+    let filter = abi_answers::array(registers);
+    let bytes = abi_answers::array(frame);
+    match filter_matcher::accepts(kind, &filter, &bytes) {
+        Ok(accepted) => abi_answers::given_flag(accepted),
+        Err(refusal) => abi_answers::refused(refusal),
+    }
 }
