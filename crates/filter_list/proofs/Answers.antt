@@ -1,13 +1,17 @@
 -- The answers to a list, each from the tests that lead to it, and the pattern's buffer with them. Assumes nothing.
 use Prim.Native.Nat.{ℕ, ◌≤◌, ◌<◌}
-use mathlib.Core.Path.{◌≡◌, sym, ap, ◌∙◌}
+use mathlib.Core.Path.{◌≡◌, refl, sym, ap, ◌∙◌}
 use mathlib.Core.Bool.{Bool}
 use mathlib.Core.List.{List, [], ◌∷◌}
 use lib.ListN.{length, take, replicate}
 use native.Mathlib.Omega.{arith}
 use borrow.Author.Tests.{lt-ltb, le-ltb, eq-eqb, ne_eqb}
+use Rattle.std.proofs.Common.{Result, Ok, Err}
+use Rattle.std.specs.Result.{result_unwrap_or}
 use Rattle.laws.specs.Said.{refuses, gives}
 use Rattle.laws.specs.Laid.{laid_first, written}
+use Rattle.refusals.specs.declared.Refusal.{Refusal}
+use Rattle.refusals.specs.Table.{bytes_said}
 use Rattle.identifiers.specs.Limits.{width_of, limit_of}
 use Rattle.filter_list.specs.Pattern.{character_at, down_from, pattern_of}
 use Rattle.filter_list.specs.Answers.{first_above, registers_for, through_of, registers_of_list, listing_of, listed_of, leaves}
@@ -65,3 +69,8 @@ module _ (extended : Bool) (list out : List ℕ) where
         made registers room e =
             let same : registers ≡ registers_of_list extended list = e ∙ ap (registers_for extended) front in
             (rw (is_made room, same), rw (is_made room) (laid ∙ ap (λ (t : List ℕ). laid_first t out) text))
+
+-- the bytes beside an answer, where zeros stand for none
+pub bytes_or_zeros : (n : ℕ) (r : Result (List ℕ) Refusal) → result_unwrap_or r (replicate n 0) ≡ (bytes_said n r).1
+bytes_or_zeros n (Ok bytes) = refl
+bytes_or_zeros n (Err f) = refl

@@ -1,21 +1,24 @@
 -- The fold of a list tells each position's character: a position is not among the differing ones exactly if each entry has the first one's bit there.
--- And the first entry above the limit, looked for one entry more at each turn. Assumes nothing.
+-- And the first entry above the limit, where there is one. Assumes nothing.
 use Prim.Native.Nat.{ℕ, zero, suc, ◌+◌, ◌≤◌, ◌<◌, max}
 use mathlib.Core.Path.{◌≡◌, refl, sym, ap, ap₂, ◌∙◌, subst}
-use mathlib.Core.Bool.{Bool, true, false, cond, ◌&&◌}
+use mathlib.Core.Bool.{Bool, true, false, cond, not, ◌&&◌}
 use mathlib.Core.List.{List, [], ◌∷◌}
 use lib.Bits.{bit_and, bit_or, bit_xor, differ}
-use lib.Dec.{eqb}
+use lib.Dec.{eqb, ltb, leb}
 use lib.ListN.{length, get_or, drop}
 use lib.Seq.{drop-cons, drop-length}
 use native.Mathlib.Decide.{ℕ_discrete}
 use native.Mathlib.Numerals.{add-one}
 use native.Mathlib.Omega.{arith}
-use borrow.Author.Tests.{eqb-true, eqb-false, le-leb, lt-leb}
+use borrow.Author.Tests.{eqb-true, eqb-false, le-leb, lt-leb, true-ltb, ltb-true, ltb-false}
+use Rattle.std.specs.Prelude.{Some, None}
+use Rattle.std.specs.List.{position_or_len}
+use Rattle.std.proofs.lemmas.Option.{none-some, cond_some}
 use Rattle.laws.specs.Bits.{bit_at}
 use Rattle.laws.proofs.Bits.{bit-lt, bit-zero, bit-or, bit-and, bit-xor, differ_same}
 use Rattle.filter_list.specs.Pattern.{all_have, character_at, character_by}
-use Rattle.filter_list.specs.Answers.{first_above}
+use Rattle.filter_list.specs.Answers.{first_above, above_in}
 
 -- ---- a fold
 unfoldable pub fold_from : (ℕ → ℕ → ℕ) → ℕ → List ℕ → ℕ
@@ -114,23 +117,26 @@ pub folded-list : (list : List ℕ) (k a d : ℕ) → 0 < length list → a ≡ 
 folded-list [] k a d h ea ed = absurd (omega arith)
 folded-list (first ∷ rest) k a d h ea ed = ap₂ (λ (x y : ℕ). character_by x y k) ea ed ∙ folded first k rest
 
--- ---- the first entry above the limit
-pub above-here : (limit : ℕ) (s : List ℕ) (i : ℕ) → i < length s → limit < get_or s i 0 → first_above limit s ≡ i + first_above limit (drop i s) → i ≡ first_above limit s
+-- ---- the first entry above the limit, as the library's words have it
+pub above-first : (limit : ℕ) (s : List ℕ) → first_above limit s ≡ position_or_len (λ (n : ℕ). ltb limit n) s
 unfolding first_above
-above-here limit s i h a e =
-    let here : first_above limit (drop i s) ≡ 0 = rw (drop-cons s i 0, lt-leb (get_or s i 0) limit a) in
-    omega arith
+above-first limit [] = refl
+above-first limit (n ∷ s) = by (ltb limit n) refl (above-first limit s)
+  where
+    by : (over : Bool) → ltb limit n ≡ over → first_above limit s ≡ position_or_len (λ (m : ℕ). ltb limit m) s
+        → cond (leb n limit) (suc (first_above limit s)) 0 ≡ cond (not over) (1 + position_or_len (λ (m : ℕ). ltb limit m) s) 0
+    by true q r = rw (lt-leb n limit (omega (arith, ltb-true limit n q)))
+    by false q r = rw (le-leb n limit (omega (arith, ltb-false limit n q))) (omega (arith, r))
 
-pub above-turn : (limit : ℕ) (s : List ℕ) (i : ℕ) → i < length s → get_or s i 0 ≤ limit → first_above limit s ≡ i + first_above limit (drop i s)
-    → first_above limit s ≡ (i + 1) + first_above limit (drop (i + 1) s)
-unfolding first_above
-above-turn limit s i h a e =
-    let here : first_above limit (drop i s) ≡ suc (first_above limit (drop (suc i) s)) = rw (drop-cons s i 0, le-leb (get_or s i 0) limit a) in
-    rw add-one (omega arith)
+-- an entry is above, or none is
+pub above-there : (limit : ℕ) (s : List ℕ) (at : ℕ) → above_in limit s ≡ Some at → (first_above limit s ≡ at) × (at < length s)
+above-there limit s at e =
+    let found = cond_some (ltb (first_above limit s) (length s)) (first_above limit s) at e in
+    (found.1, omega (arith, found.1, true-ltb (first_above limit s) (length s) (sym found.0)))
 
-pub above-none : (limit : ℕ) (s : List ℕ) (i : ℕ) → length s ≤ i → i ≤ length s → first_above limit s ≡ i + first_above limit (drop i s) → i ≡ first_above limit s
-unfolding first_above
-above-none limit s i h k e =
-    let all : i ≡ length s = omega arith in
-    let done : first_above limit (drop i s) ≡ 0 = rw (all, drop-length) in
-    omega arith
+pub above-none : (limit : ℕ) (s : List ℕ) → above_in limit s ≡ None → length s ≤ first_above limit s
+above-none limit s e = by (ltb (first_above limit s) (length s)) refl e
+  where
+    by : (b : Bool) → ltb (first_above limit s) (length s) ≡ b → cond b (Some (first_above limit s)) None ≡ None → length s ≤ first_above limit s
+    by true q r = absurd (none-some (first_above limit s) (sym r))
+    by false q r = ltb-false (first_above limit s) (length s) q

@@ -1,24 +1,27 @@
 -- What is answered to a list: the refusal that is due, else how many identifiers get through, and the registers beside it; and the pattern's buffer.
 -- Source: request #102: refusals 15 for an empty list, then 1 with the index of the first too-large entry, then 6; two to the number of free positions,
 -- read off the mask register as a count of ones among the identifier positions.
-use Rattle.std.specs.Prelude.{ℕ, suc, ◌+◌, ◌^◌, Bool, cond, List, [], ◌∷◌, eqb, ltb, leb, length, get_or}
+use Rattle.std.specs.Prelude.{ℕ, suc, ◌+◌, ◌^◌, Bool, cond, List, [], ◌∷◌, eqb, ltb, leb, length, get_or, replicate, Option, Some, None, Result, Ok, Err}
 use Rattle.laws.specs.Bits.{bit_at}
 use Rattle.laws.specs.Said.{Said, refuses, gives}
 use Rattle.laws.specs.Laid.{written}
-use Rattle.refusals.specs.Table.{refusal_said}
+use Rattle.refusals.specs.declared.Refusal.{Refusal}
+use Rattle.refusals.specs.Table.{answer_said}
 use Rattle.identifiers.specs.Limits.{width_of, limit_of}
 use Rattle.filter_registers.specs.Registers.{mask_in}
 use Rattle.filter_compilers.specs.Table.{fields_of}
 use Rattle.filter_compilers.specs.Answers.{answered, compile_of}
 use Rattle.filter_list.specs.Pattern.{pattern_of, single_of, with_identifier}
-use Rattle.filter_list.specs.declared.Listing.{Listing}
-use Rattle.filter_list.specs.declared.Listing.TheVariants.{Made, Refused}
 use Rattle.filter_list.specs.declared.Listed.{Listed}
 
 -- the index of the first entry above a limit, or the length
 unfoldable pub first_above : ℕ → List ℕ → ℕ
 first_above limit [] = 0
 first_above limit (n ∷ list) = cond (leb n limit) (suc (first_above limit list)) 0
+
+-- that index, where an entry is above
+abbrev pub above_in : ℕ → List ℕ → Option ℕ
+above_in limit list = cond (ltb (first_above limit list) (length list)) (Some (first_above limit list)) None
 
 -- the registers that the compiler makes of an identifier pattern
 unfoldable pub registers_for : Bool → List ℕ → List ℕ
@@ -55,9 +58,13 @@ listed_of extended list room = answered (listing_of extended list room) (registe
 abbrev pub leaves : Bool → List ℕ → List ℕ → List ℕ
 leaves extended list out = written (listing_of extended list (length out)) (pattern_of (width_of extended) list) out
 
-abbrev pub listing_said : Listing → Said ℕ
-listing_said (Made through) = gives through
-listing_said (Refused f) = refusal_said f
+abbrev pub listing_said : Result Listed Refusal → Said ℕ
+listing_said = answer_said (λ listed. listed.through)
 
-abbrev pub listed_said : Listed → Said ℕ × List ℕ
-listed_said r = (listing_said r.answer, r.registers)
+-- the registers beside the answer: zeros after a refusal
+abbrev pub beside : Result Listed Refusal → List ℕ
+beside (Ok listed) = listed.registers
+beside (Err f) = replicate 8 0
+
+abbrev pub listed_said : Result Listed Refusal → Said ℕ × List ℕ
+listed_said r = (listing_said r, beside r)

@@ -1,98 +1,83 @@
 // A filter from a list: the single filter that lets all identifiers of a list through, and as little else as possible.
 #![tactic(auto)]
 
-ghost use Rattle.std.specs.Prelude.{◌≡◌, ℕ, ◌^◌, ◌<◌, ◌≤◌, length, replicate};
-ghost use Rattle.laws.specs.Said.{gives};
+ghost use Rattle.std.specs.Prelude.{◌≡◌, ℕ, ◌^◌, ◌<◌, ◌≤◌, length};
 ghost use Rattle.laws.specs.Laid.{laid_first};
-ghost use Rattle.refusals.specs.Table.{refusal_said};
 ghost use Rattle.filter_registers.specs.Registers.{mask_in};
 ghost use Rattle.filter_list.specs.Pattern.{character_at, character_by, down_from};
-ghost use Rattle.filter_list.specs.Answers.{first_above, registers_for, through_of, listed_of, leaves, listed_said};
+ghost use Rattle.filter_list.specs.Answers.{above_in, registers_for, through_of, listed_of, leaves, listed_said};
 
 use filter_types::{SingleExtendedFilter, SingleStandardFilter};
 use refusals::Refusal;
 
-#[derive(Clone, Copy)]
-pub enum Listing {
-    // How many identifiers get through.
-    Made(u32),
-    Refused(Refusal),
-}
-
-// The answer, and the registers beside it: zeros after a refusal.
-#[derive(Clone, Copy)]
+// How many identifiers get through, and the registers.
+#[derive(Clone, Copy, Debug, PartialEq, Eq)]
 pub struct Listed {
-    pub answer: Listing,
+    pub through: u32,
     pub registers: [u8; 8],
 }
 
-// A list folded: the index of its first entry above the limit, or its length; the bits that all entries have; and the positions where some differ.
-#[derive(Clone, Copy)]
-pub struct Folded {
-    pub above: usize,
-    pub agreed: u32,
-    pub differing: u32,
+// The index of the first entry above a limit.
+fn above(list: &[u32], limit: u32) -> Option<usize>
+    ensures { result ≡ above_in limit list.now }
+{
+    list.iter().position(|entry| *entry > limit)
 }
 
-fn fold(list: &[u32], limit: u32) -> Folded
-    requires { 0 < length list.now }
-    ensures { (result.above ≡ first_above limit list.now)
-        × (length list.now ≤ result.above → (k : ℕ) → character_by result.agreed result.differing k ≡ character_at list.now k) }
-{
-    let first = list[0];
-    let mut agreed = first;
-    let mut differing = 0;
-    let mut i = 0;
-    while i < list.len() {
-        let entry = list[i];
-        if entry > limit {
-            return Folded {
-                above: i,
-                agreed,
-                differing,
-            };
+// The bits that all entries of a list have, and the positions where some differ.
+#[derive(Clone, Copy, Debug, PartialEq, Eq)]
+struct Agreement {
+    agreed: u32,
+    differing: u32,
+}
+
+impl Agreement {
+    fn of(list: &[u32]) -> Agreement
+        requires { 0 < length list.now }
+        ensures { (k : ℕ) → character_by result.agreed result.differing k ≡ character_at list.now k }
+    {
+        let first = list[0];
+        let mut agreed = first;
+        let mut differing = 0;
+        for &entry in list {
+            agreed &= entry;
+            differing |= first ^ entry;
         }
-        agreed = agreed & entry;
-        differing = differing | (first ^ entry);
-        i += 1;
+        Agreement { agreed, differing }
     }
-    Folded {
-        above: i,
-        agreed,
-        differing,
+
+    // The character at a position: a digit where the entries agree.
+    fn character(self, position: u32) -> u8
+        requires { position < 32 }
+        ensures { result ≡ character_by self.agreed self.differing position }
+    {
+        if (self.differing >> position) % 2 == 1 {
+            return b'x';
+        }
+        b'0' + ((self.agreed >> position) % 2) as u8
+    }
+
+    // The characters of these positions into the front of the buffer, the highest first.
+    fn write(self, width: usize, pattern: &mut [u8])
+        requires { (width ≤ 32) × (width ≤ length pattern.old) }
+        ensures { pattern.new ≡ laid_first (down_from width (character_by self.agreed self.differing)) pattern.old }
+    {
+        for i in 0..width {
+            pattern[i] = self.character((width - 1 - i) as u32);
+        }
     }
 }
 
-// The character at a position: a digit where the entries agree.
-fn character(agreed: u32, differing: u32, position: u32) -> u8
-    requires { position < 32 }
-    ensures { result ≡ character_by agreed differing position }
-{
-    if (differing >> position) % 2 == 1 {
-        return b'x';
-    }
-    b'0' + ((agreed >> position) % 2) as u8
-}
-
-// The characters of these positions into the front of the buffer, the highest first.
-fn write(agreed: u32, differing: u32, width: usize, pattern: &mut [u8])
-    requires { (width ≤ 32) × (width ≤ length pattern.old) }
-    ensures { pattern.new ≡ laid_first (down_from width (character_by agreed differing)) pattern.old }
-{
-    let mut i = 0;
-    while i < width {
-        pattern[i] = character(agreed, differing, (width - 1 - i) as u32);
-        i += 1;
-    }
-}
-
+// A pattern of the identifier's width, all of it `0`, `1` and `x`, is never refused.
 fn compile(extended: bool, pattern: &[u8]) -> [u8; 8]
     ensures { result ≡ registers_for extended pattern.now }
 {
-    if extended {
-        return SingleExtendedFilter::new(pattern, b"x").registers;
-    }
-    SingleStandardFilter::new(pattern, b"x", b"xxxxxxxx", b"xxxxxxxx").registers
+    let compiled = if extended {
+        SingleExtendedFilter::new(pattern, b"x")
+    } else {
+        SingleStandardFilter::new(pattern, b"x", b"xxxxxxxx", b"xxxxxxxx")
+    };
+    compiled.unwrap_or([0; 8])
 }
 
 fn mask_word(registers: &[u8; 8]) -> u32
@@ -112,40 +97,24 @@ fn through(extended: bool, registers: &[u8; 8]) -> u32
     1 << u32::count_ones(mask >> 21)
 }
 
-fn refused(refusal: Refusal) -> Listed
-    ensures { listed_said result ≡ (refusal_said refusal, replicate 8 0) }
-{
-    Listed {
-        answer: Listing::Refused(refusal),
-        registers: [0; 8],
-    }
-}
-
-fn given(extended: bool, registers: [u8; 8]) -> Listed
-    ensures { listed_said result ≡ (gives (through_of extended registers), registers) }
-{
-    Listed {
-        answer: Listing::Made(through(extended, &registers)),
-        registers,
-    }
-}
-
-pub fn from_list(extended: bool, list: &[u32], pattern: &mut [u8]) -> Listed
+pub fn from_list(extended: bool, list: &[u32], pattern: &mut [u8]) -> Result<Listed, Refusal>
     ensures result_value { listed_said result ≡ listed_of extended list.now (length pattern.old) }
     ensures pattern_after { pattern.new ≡ leaves extended list.now pattern.old }
 {
-    if list.len() == 0 {
-        return refused(Refusal::EmptyList);
+    if list.is_empty() {
+        return Err(Refusal::EmptyList);
     }
     let needed = identifiers::width(extended);
-    let folded = fold(list, identifiers::limit(extended));
-    let above = folded.above;
-    if above < list.len() {
-        return refused(Refusal::EntryAboveLimit(above));
+    if let Some(at) = above(list, identifiers::limit(extended)) {
+        return Err(Refusal::EntryAboveLimit(at));
     }
     if pattern.len() < needed {
-        return refused(Refusal::OutputTooShort(needed));
+        return Err(Refusal::OutputTooShort(needed));
     }
-    write(folded.agreed, folded.differing, needed, pattern);
-    given(extended, compile(extended, &pattern[..needed]))
+    Agreement::of(list).write(needed, pattern);
+    let registers = compile(extended, &pattern[..needed]);
+    Ok(Listed {
+        through: through(extended, &registers),
+        registers,
+    })
 }
