@@ -8,8 +8,7 @@ ghost use Rattle.filter_list.specs.Pattern.{pattern_of};
 ghost use Rattle.filter_list.specs.Answers.{listed_of};
 ghost use Rattle.abi_answers.specs.Answers.{answer_of, delivering, delivery_leaves};
 
-use abi_answers::{Answer, Delivery};
-use filter_list::Listing;
+use abi_answers::Answer;
 
 #[unsafe(no_mangle)]
 pub extern "C" fn chherbolat_filter_from_list(
@@ -25,15 +24,11 @@ pub extern "C" fn chherbolat_filter_from_list(
     if registers.len() != 8 {
         return abi_answers::wrong_length(3);
     }
-    let listed = filter_list::from_list(extended, list, pattern);
-    let answer = listed.answer;
-    let bytes = listed.registers;
-    match answer {
-        Listing::Made(through) => {
-            abi_answers::deliver(Delivery::Given(through as u64), &bytes, 3, registers)
+    match filter_list::from_list(extended, list, pattern) {
+        Ok(listed) => {
+            registers.copy_from_slice(&listed.registers);
+            abi_answers::given(u64::from(listed.through))
         }
-        Listing::Refused(refusal) => {
-            abi_answers::deliver(Delivery::Refused(refusal), &bytes, 3, registers)
-        }
+        Err(refusal) => abi_answers::refused(refusal),
     }
 }
