@@ -3,7 +3,7 @@
 
 mod byte;
 
-ghost use Rattle.std.specs.Prelude.{◌≡◌, ◌-◌, ◌<◌, ◌≤◌};
+ghost use Rattle.std.specs.Prelude.{◌≡◌, ◌<◌, ◌≤◌};
 ghost use Rattle.box_fifo.specs.Ring.{entry_limit, weight_of, sum_of, fifo_ok, mark_entry, empty_fifo, front_of, pushed, released, arrive_of, arrived_said};
 
 pub const ENTRY_LIMIT: usize = 64;
@@ -38,16 +38,15 @@ pub struct Arrived {
     pub state: Fifo,
 }
 
-#[tactic(auto, unfolding(crate::specs::Ring::weight_of))]
+#[tactic(auto, using(crate::proofs::Bounds::bounds), unfolding(crate::specs::Ring::weight_of))]
 fn weight_of(entry: Entry) -> usize
-    ensures { result ≡ weight_of entry }
+    ensures { (result ≡ weight_of entry) × (result ≤ 13) }
 {
     if entry.mark {
         return 0;
     }
-    let bytes = entry.bytes;
-    let length = frame_info::data_length(&bytes);
-    if frame_info::is_extended_format(&bytes) {
+    let length = frame_info::data_length(&entry.bytes);
+    if frame_info::is_extended_format(&entry.bytes) {
         return 5 + length;
     }
     3 + length
@@ -59,11 +58,8 @@ fn sum_weights(fifo: Fifo) -> usize
     ensures { result ≡ sum_of fifo }
 {
     let mut sum: usize = 0;
-    let mut i: usize = 0;
-    while i < fifo.count {
-        let at = (fifo.head + i) % ENTRY_LIMIT;
-        sum += weight_of(fifo.entries[at]);
-        i += 1;
+    for i in 0..fifo.count {
+        sum += weight_of(fifo.entries[(fifo.head + i) % ENTRY_LIMIT]);
     }
     sum
 }
@@ -90,16 +86,6 @@ fn push(fifo: Fifo, entry: Entry, weight: usize) -> Fifo
     more
 }
 
-// What is left of a number, 0 where too much is taken off.
-fn less(number: usize, off: usize) -> usize
-    ensures { result ≡ number - off }
-{
-    if number < off {
-        return 0;
-    }
-    number - off
-}
-
 impl Fifo {
     pub fn fresh() -> Fifo
         ensures { result ≡ empty_fifo }
@@ -117,19 +103,13 @@ impl Fifo {
     pub fn valid(self) -> bool
         ensures { result ≡ fifo_ok self }
     {
-        if self.head >= ENTRY_LIMIT {
-            return false;
-        }
-        if self.count > ENTRY_LIMIT {
-            return false;
-        }
-        if self.weight > WEIGHT_LIMIT {
-            return false;
-        }
-        sum_weights(self) == self.weight
+        self.head < ENTRY_LIMIT
+            && self.count <= ENTRY_LIMIT
+            && self.weight <= WEIGHT_LIMIT
+            && sum_weights(self) == self.weight
     }
 
-    #[tactic(auto, unfolding(crate::specs::Ring::arrive_of))]
+    #[tactic(auto, unfolding(crate::specs::Ring::arrive_of, crate::specs::Ring::weight_of))]
     pub fn arrive(self, frame: [u8; 13]) -> Arrived
         ensures { arrived_said result ≡ arrive_of self frame }
     {
@@ -160,8 +140,7 @@ impl Fifo {
     pub fn front(self) -> Entry
         ensures { result ≡ front_of self }
     {
-        let at = self.head % ENTRY_LIMIT;
-        self.entries[at]
+        self.entries[self.head % ENTRY_LIMIT]
     }
 
     // The front leaves; an empty FIFO stays as it is.
@@ -171,12 +150,10 @@ impl Fifo {
         if self.count == 0 {
             return self;
         }
-        let front = self.front();
-        let off = weight_of(front);
         let mut rest = self;
         rest.head = (self.head % ENTRY_LIMIT + 1) % ENTRY_LIMIT;
         rest.count = self.count - 1;
-        rest.weight = less(self.weight, off);
+        rest.weight = self.weight.saturating_sub(weight_of(self.front()));
         rest
     }
 }

@@ -1,13 +1,12 @@
 -- The comparison of records is the library's of their parts; and it is equality: a record is the same as itself, and what is found the same is equal.
 -- Assumes nothing.
 use Prim.Native.Nat.{ℕ}
-use mathlib.Core.Path.{◌≡◌, refl, ap, ◌∙◌}
+use mathlib.Core.Path.{◌≡◌, refl, sym, ap, ◌∙◌}
 use mathlib.Core.Bool.{true, ◌&&◌}
 use mathlib.Core.List.{List, [], ◌∷◌}
-use lib.Dec.{eqb}
 use Rattle.std.proofs.Common.{nat_eq}
-use Rattle.std.specs.Cmp.Lexicographic.{pointwise}
-use borrow.Author.Tests.{eqb-true, eq-eqb}
+use Rattle.std.specs.Cmp.Lexicographic.{pointwise, same_text}
+use Rattle.std.proofs.lemmas.Cmp.{nat_list_eq_equiv}
 use Rattle.laws.proofs.Bools.{both_true}
 use Rattle.box_records.specs.declared.RecordError.TheVariants.{Overrun, BusOff}
 use Rattle.box_records.specs.declared.RecordKind.{RecordKind}
@@ -24,9 +23,7 @@ same-pointwise (x ∷ xs) [] = refl
 same-pointwise (x ∷ xs) (y ∷ ys) = rw (same-pointwise xs ys) refl
 
 bytes-self : (xs : List ℕ) → same_bytes xs xs ≡ true
-unfolding same_bytes
-bytes-self [] = refl
-bytes-self (x ∷ xs) = simp (eq-eqb x x refl) (bytes-self xs)
+bytes-self xs = sym (same-pointwise xs xs) ∙ nat_list_eq_equiv.refl xs
 
 kind-self : (k : RecordKind) → same_kind k k ≡ true
 kind-self Frame = refl
@@ -37,15 +34,7 @@ pub same_self : (r : Record) → same_record r r ≡ true
 same_self r = simp (kind-self r.kind, bytes-self r.bytes)
 
 bytes-equal : (xs ys : List ℕ) → same_bytes xs ys ≡ true → xs ≡ ys
-unfolding same_bytes
-bytes-equal [] [] e = refl
-bytes-equal [] (y ∷ ys) e = cc
-bytes-equal (x ∷ xs) [] e = cc
-bytes-equal (x ∷ xs) (y ∷ ys) e =
-    let h = both_true (eqb x y) (same_bytes xs ys) e in
-    let a = eqb-true x y h.0 in
-    let b = bytes-equal xs ys h.1 in
-    cc
+bytes-equal xs ys e = same_text xs ys (sym (same-pointwise xs ys ∙ e))
 
 kind-equal : (j k : RecordKind) → same_kind j k ≡ true → j ≡ k
 kind-equal Frame Frame e = refl

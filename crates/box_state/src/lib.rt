@@ -64,53 +64,51 @@ pub fn record_of(entry: Entry) -> Record
     }
 }
 
-// Between look and release the FIFO is not empty.
-#[tactic(auto, unfolding(crate::specs::Rules::front_ready))]
-fn front_ready(state: ReceiveBox) -> bool
-    ensures { result ≡ front_ready state }
-{
-    state.words.receive_due() && 0 < state.fifo.count
-}
-
-// At copy the front is whole.
-#[tactic(auto, unfolding(crate::specs::Rules::copy_ready))]
-fn copy_ready(state: ReceiveBox) -> bool
-    ensures { result ≡ copy_ready state }
-{
-    front_ready(state) && !state.fifo.front().mark
-}
-
-// At release the held record is the front's.
-#[tactic(auto, unfolding(crate::specs::Rules::release_ready))]
-fn release_ready(state: ReceiveBox) -> bool
-    ensures { result ≡ release_ready state }
-{
-    front_ready(state) && state.held.same(record_of(state.fifo.front()))
-}
-
-// The next step is one that the stored words allow.
-fn phase_ok(state: ReceiveBox) -> bool
-    ensures { result ≡ phase_ok state.phase state }
-{
-    match state.phase {
-        Phase::Idle => true,
-        Phase::Notice => state.words.notice_due(),
-        Phase::Look => state.words.receive_due(),
-        Phase::Miss => front_ready(state),
-        Phase::Copy => copy_ready(state),
-        Phase::Release => release_ready(state),
-        Phase::Offer => state.words.receive_due(),
-        Phase::Finish => true,
-    }
-}
-
 impl ReceiveBox {
     // The state rules.
     #[tactic(auto, unfolding(crate::specs::Rules::box_ok))]
     pub fn valid(self) -> bool
         ensures { result ≡ box_ok self }
     {
-        self.fifo.valid() && self.queue.valid() && phase_ok(self)
+        self.fifo.valid() && self.queue.valid() && self.phase_ok()
+    }
+
+    // Between look and release the FIFO is not empty.
+    #[tactic(auto, unfolding(crate::specs::Rules::front_ready))]
+    fn front_ready(self) -> bool
+        ensures { result ≡ front_ready self }
+    {
+        self.words.receive_due() && 0 < self.fifo.count
+    }
+
+    // At copy the front is whole.
+    #[tactic(auto, unfolding(crate::specs::Rules::copy_ready))]
+    fn copy_ready(self) -> bool
+        ensures { result ≡ copy_ready self }
+    {
+        self.front_ready() && !self.fifo.front().mark
+    }
+
+    // At release the held record is the front's.
+    #[tactic(auto, unfolding(crate::specs::Rules::release_ready))]
+    fn release_ready(self) -> bool
+        ensures { result ≡ release_ready self }
+    {
+        self.front_ready() && self.held.same(record_of(self.fifo.front()))
+    }
+
+    // The next step is one that the stored words allow.
+    fn phase_ok(self) -> bool
+        ensures { result ≡ phase_ok self.phase self }
+    {
+        match self.phase {
+            Phase::Idle | Phase::Finish => true,
+            Phase::Notice => self.words.notice_due(),
+            Phase::Look | Phase::Offer => self.words.receive_due(),
+            Phase::Miss => self.front_ready(),
+            Phase::Copy => self.copy_ready(),
+            Phase::Release => self.release_ready(),
+        }
     }
 
     // No entries, no records, no drain.

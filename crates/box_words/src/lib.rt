@@ -36,26 +36,18 @@ impl Words {
     pub fn notice_due(self) -> bool
         ensures { result ≡ notice_due self }
     {
-        if !is_set(self.interrupt, ERROR_WARNING) {
-            return false;
-        }
-        if !is_set(self.status, BUS_OFF) {
-            return false;
-        }
-        is_set(self.status, ERROR)
+        is_set(self.status, BUS_OFF)
+            && is_set(self.status, ERROR)
+            && is_set(self.interrupt, ERROR_WARNING)
     }
 
     #[tactic(auto, unfolding(crate::specs::Due::error_due))]
     fn error_due(self) -> bool
         ensures { result ≡ error_due self }
     {
-        if is_set(self.interrupt, ERROR_WARNING) {
-            return true;
-        }
-        if is_set(self.interrupt, ERROR_PASSIVE) {
-            return true;
-        }
-        is_set(self.interrupt, BUS_ERROR)
+        is_set(self.interrupt, ERROR_WARNING)
+            || is_set(self.interrupt, ERROR_PASSIVE)
+            || is_set(self.interrupt, BUS_ERROR)
     }
 
     #[tactic(auto, unfolding(crate::specs::Due::finish_of))]
