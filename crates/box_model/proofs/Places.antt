@@ -3,11 +3,12 @@ use Prim.Native.Nat.{ℕ, zero, suc, ◌+◌, ◌<◌}
 use mathlib.Core.Path.{◌≡◌, refl, sym, ap, ◌∙◌}
 use mathlib.Core.Logic.{◌≢◌}
 use mathlib.Core.Option.{Option, none, some}
-use mathlib.Core.List.{List, [], ◌∷◌, ◌++◌, map}
+use mathlib.Core.List.{List, [], ◌∷◌, map}
 use mathlib.Core.Bool.{Bool, true, false}
 use lib.ListN.{length, length-map, get_or}
 use lib.Dec.{leb, ltb, eqb, eqb→eq, eqb_refl, T}
 use native.Mathlib.Omega.{arith}
+use Rattle.std.proofs.lemmas.List.{map-append}
 use Rattle.laws.specs.Row.{bit}
 use Rattle.box_fifo.specs.Ring.{entry_limit, weight_limit, Outcome, not_recorded, marked, stored}
 use Rattle.box_model.specs.Lists.{Kit, weight, entered, enter, offered, offer, arrived, took, noticed, moved, nothing}
@@ -23,10 +24,6 @@ module _ (K : Kit) where
   weight-erase : (f : List (ℕ × K.Entry)) → weight K (bare_entries K f) ≡ weight (tag K) f
   weight-erase [] = refl
   weight-erase (e ∷ f) = rw (weight-erase f)
-
-  map-append : {A B : Type 0} (g : A → B) (xs ys : List A) → map g (xs ++ ys) ≡ map g xs ++ map g ys
-  map-append g [] ys = refl
-  map-append g (x ∷ xs) ys = rw (map-append g xs ys)
 
   entered-erase : (x y : Bool) (f : List (ℕ × K.Entry)) (a : ℕ × K.Frame)
       → entered K x y (bare_entries K f) a.1 ≡ ((entered (tag K) x y f a).0, bare_entries K (entered (tag K) x y f a).1)

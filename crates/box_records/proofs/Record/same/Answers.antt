@@ -1,11 +1,10 @@
 -- `box_records::Record::same` meets its contract: the derived equality is the definition, kind by kind. Assumes nothing.
-use Rattle.std.proofs.Common.{◌≡◌, ℕ, Bool, true, false, List, ◌∙◌, refl}
+use Rattle.std.proofs.Common.{◌≡◌, ◌∙◌, refl}
 use Rattle.box_records.specs.declared.RecordError.TheVariants.{Overrun, BusOff}
 use Rattle.box_records.specs.declared.RecordKind.{RecordKind}
 use Rattle.box_records.specs.declared.RecordKind.TheVariants.{Frame, Error}
-use Rattle.box_records.specs.declared.Record.{Record}
 use Rattle.box_records.specs.contracts.RecordKindPartialEq.TheImpl as kinds
-use Rattle.box_records.specs.Same.{same_kind, same_record}
+use Rattle.box_records.specs.Same.{same_kind}
 use Rattle.box_records.proofs.Same.{same-pointwise}
 use Rattle.box_records.proofs.Record.same.Goals as goal
 
