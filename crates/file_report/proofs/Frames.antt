@@ -1,9 +1,10 @@
 -- Turns of the loops over frames, by the rows at their indices, and the whole texts. Assumes nothing.
 use Prim.Native.Nat.{ℕ, ◌+◌, ◌-◌, ◌*◌, ◌≤◌, ◌<◌}
 use mathlib.Core.Path.{◌≡◌, refl, sym, ap, ap₂, ◌∙◌}
-use mathlib.Core.Bool.{Bool, cond}
+use mathlib.Core.Bool.{Bool, true, false, cond}
+use mir.Val.{bool_byte}
 use mathlib.Core.List.{List, [], ◌∷◌, ◌++◌, append_assoc}
-use lib.ListN.{length, set, length-append}
+use lib.ListN.{length, get_or, set, length-append}
 use native.Mathlib.Numerals.{add-one}
 use native.Mathlib.Omega.{arith}
 use Rattle.laws.specs.Ascii.{ascii}
@@ -20,10 +21,9 @@ use Rattle.text.specs.Put.{place_behind, put_at}
 use Rattle.text.proofs.Decimal.{decimal-long}
 use Rattle.text.proofs.Put.{place-put, text-put}
 use Rattle.file_report.specs.Text.{any, line_of, lines_from, count_of, good_text, bad_text, read_text, text_of}
-use Rattle.file_report.specs.Held.{row_by}
-use Rattle.file_report.specs.declared.Filters.{Filters}
+use Rattle.file_report.specs.Held.{row_at, rows_in}
 use Rattle.file_report.specs.Length.{line_length, lines_length}
-use Rattle.file_report.proofs.Held.{row-long}
+use Rattle.file_report.proofs.Held.{row-many, text-read}
 use Rattle.file_report.proofs.Text.{lines_more, lines_long, count-more, count_most, long-more}
 
 pub long-none : (n : ℕ) → 0 ≡ lines_length n 0
@@ -41,12 +41,12 @@ line-room n i m h =
     omega (arith, long-turn n i)
 
 -- the rows of a file's frames, by their index
-module _ (s : List ℕ) (held : Filters) (start : ℕ) where
+module _ (s : List ℕ) (sections : Sections) where
   abbrev rows : ℕ → List (List Bool)
-  rows m = tabulate m (row_by s held start)
+  rows m = tabulate m (row_at s sections)
 
-  wide : (i : ℕ) → length (row_by s held start i) ≡ held.count
-  wide = row-long s held start
+  wide : (i : ℕ) → length (row_at s sections i) ≡ sections.filters
+  wide = row-many s sections
 
   pub lines_none : (out : List ℕ) → out ≡ laid 0 (lines_from 0 (rows 0)) out
   unfolding lines_from
@@ -56,44 +56,47 @@ module _ (s : List ℕ) (held : Filters) (start : ℕ) where
   unfolding count_of
   count_none = refl
 
-  pub lines-turn : (i at : ℕ) (here : List Bool) (out was now : List ℕ) → at ≡ lines_length held.count i → here ≡ row_by s held start i
-      → was ≡ laid 0 (lines_from 0 (rows i)) out → now ≡ laid at (line_of i here) was → now ≡ laid 0 (lines_from 0 (rows (i + 1))) out
-  lines-turn i at here out was now ea eh ew en =
+  pub lines-turn : (i at : ℕ) (out was now : List ℕ) → at ≡ lines_length sections.filters i
+      → was ≡ laid 0 (lines_from 0 (rows i)) out → now ≡ laid at (line_of i (row_at s sections i)) was → now ≡ laid 0 (lines_from 0 (rows (i + 1))) out
+  lines-turn i at out was now ea ew en =
       en
-      ∙ ap₂ (λ (r : List Bool) (l : List ℕ). laid at (line_of i r) l) eh ew
-      ∙ laid_then at 0 (lines_from 0 (rows i)) (line_of i (row_by s held start i)) out
-      (omega (arith, lines_long held.count (row_by s held start) wide i)) (omega arith)
+      ∙ ap (λ (l : List ℕ). laid at (line_of i (row_at s sections i)) l) ew
+      ∙ laid_then at 0 (lines_from 0 (rows i)) (line_of i (row_at s sections i)) out
+      (omega (arith, lines_long sections.filters (row_at s sections) wide i)) (omega arith)
       ∙ ap (λ (l : List ℕ). laid 0 l out)
-      (sym (lines_more held.count (row_by s held start) wide i) ∙ ap (λ (k : ℕ). lines_from 0 (rows k)) (sym (add-one i)))
+      (sym (lines_more sections.filters (row_at s sections) wide i) ∙ ap (λ (k : ℕ). lines_from 0 (rows k)) (sym (add-one i)))
 
-  pub count_turn : (i count next : ℕ) (here : List Bool) (some : Bool) → here ≡ row_by s held start i → count ≡ count_of (rows i) → some ≡ any here
-      → next ≡ count + cond some 1 0 → next ≡ count_of (rows (i + 1))
-  count_turn i count next here some eh ec es en =
-      en
-      ∙ ap₂ (λ (x : ℕ) (b : Bool). x + cond b 1 0) ec (es ∙ ap any eh)
-      ∙ sym (count-more held.count (row_by s held start) wide i) ∙ ap (λ (k : ℕ). count_of (rows k)) (sym (add-one i))
+  byte-is : (b : Bool) → bool_byte b ≡ cond b 1 0
+  byte-is true = refl
+  byte-is false = refl
+
+  pub count-turn : (i count byte : ℕ) (some : Bool) → count ≡ count_of (rows i) → some ≡ any (row_at s sections i) → byte ≡ bool_byte some
+      → count + byte ≡ count_of (rows (i + 1))
+  count-turn i count byte some ec es eb =
+      ap₂ (λ (x y : ℕ). x + y) ec (eb ∙ byte-is some ∙ ap (λ (b : Bool). cond b 1 0) es)
+      ∙ sym (count-more sections.filters (row_at s sections) wide i) ∙ ap (λ (k : ℕ). count_of (rows k)) (sym (add-one i))
 
   pub count-few : (m : ℕ) → count_of (rows m) ≤ m
-  count-few m = count_most held.count (row_by s held start) wide m
+  count-few m = count_most sections.filters (row_at s sections) wide m
 
   -- the whole text of m frames
-  pub good-long : (m : ℕ) → length (good_text (rows m)) ≡ lines_length held.count m + (9 + (length (decimal (count_of (rows m))) + 1))
+  pub good-long : (m : ℕ) → length (good_text (rows m)) ≡ lines_length sections.filters m + (9 + (length (decimal (count_of (rows m))) + 1))
   unfolding good_text
-  good-long m = simp length-append (omega (arith, lines_long held.count (row_by s held start) wide m))
+  good-long m = simp length-append (omega (arith, lines_long sections.filters (row_at s sections) wide m))
 
-  pub good-most : (m : ℕ) → m ≤ frame_limit → length (good_text (rows m)) ≤ lines_length held.count m + 14
+  pub good-most : (m : ℕ) → m ≤ frame_limit → length (good_text (rows m)) ≤ lines_length sections.filters m + 14
   good-most m h = omega (arith, good-long m, decimal-long 3 (count_of (rows m)) (omega (arith, count-few m)))
 
   -- the lines, "accepted ", the count and a newline, put one behind another
   module _ (m at p q count : ℕ) (out one two three : List ℕ) (room : length (good_text (rows m)) ≤ length out)
-      (ea : at ≡ lines_length held.count m) (ec : count ≡ count_of (rows m)) (e1 : one ≡ laid 0 (lines_from 0 (rows m)) out)
+      (ea : at ≡ lines_length sections.filters m) (ec : count ≡ count_of (rows m)) (e1 : one ≡ laid 0 (lines_from 0 (rows m)) out)
       (ep : p ≡ place_behind at (ascii "accepted ") one) (e2 : two ≡ put_at at (ascii "accepted ") one)
       (eq : q ≡ place_behind p (decimal count) two) (e3 : three ≡ put_at p (decimal count) two) where
     long : length (good_text (rows m)) ≡ at + (9 + (length (decimal count) + 1))
     long = good-long m ∙ rw (ea, ec)
 
     lines : at ≡ 0 + length (lines_from 0 (rows m))
-    lines = omega (arith, ea, lines_long held.count (row_by s held start) wide m)
+    lines = omega (arith, ea, lines_long sections.filters (row_at s sections) wide m)
 
     long-one : length one ≡ length out
     long-one = ap length e1 ∙ length-laid 0 (lines_from 0 (rows m)) out (omega (arith, long, lines))
@@ -205,6 +208,14 @@ module _ (number place p q t e : ℕ) (out one two three four : List ℕ) (room 
       ∙ set_then e 10 0 (b ++ decimal place) out last (omega (arith, fit, first.0, second.0, third.0, fourth.0))
       ∙ ap (λ (l : List ℕ). laid 0 l out) whole
 
+-- the text of a file that is read
+module _ (s : List ℕ) (sections : Sections) (read : read_of s ≡ gives sections) where
+  pub text-long : length (text_of s) ≡ lines_length sections.filters sections.frames + (9 + (length (decimal (count_of (rows_in s sections))) + 1))
+  text-long = ap length (text-read s sections read) ∙ good-long s sections sections.frames
+
+  pub text-most : length (text_of s) ≤ lines_length sections.filters sections.frames + 14
+  text-most = omega (arith, ap length (text-read s sections read), good-most s sections sections.frames (read-good s sections read).0.frames-within)
+
 -- ---- from what the reader answered
 pub text-refused : (s : List ℕ) (said : Said Sections) → read_of s ≡ said → text_of s ≡ read_text s said
 unfolding text_of
@@ -214,12 +225,26 @@ pub same_text : (t u out now : List ℕ) (said : Said ℕ) → u ≡ t → (said
     → (said ≡ laying u out) × (now ≡ written (laying u out) u out)
 same_text t u out now said e p = rw e p
 
-pub within : (s : List ℕ) (sections : Sections) → read_of s ≡ gives sections
-    → (sections.filters ≤ filter_limit)
-    × (sections.filters_start + filter_bytes * sections.filters ≤ length s)
-    × (sections.frames_start + frame_bytes * sections.frames ≤ length s)
-    × (sections.frames ≤ frame_limit)
+-- where the filters and the frames of a file that is read stand
+pub record Within (s : List ℕ) (sections : Sections) : Type 0 where
+  pub few-filters : sections.filters ≤ filter_limit
+  pub few-frames : sections.frames ≤ frame_limit
+  pub filters-within : sections.filters_start + filter_bytes * sections.filters ≤ length s
+  pub frames-within : sections.frames_start + frame_bytes * sections.frames ≤ length s
+  pub start-low : sections.filters_start < 256
+  pub frames-low : sections.frames_start < 256
+  pub kinds : (i : ℕ) → i < sections.filters → get_or s (sections.filters_start + filter_bytes * i) 0 ≤ 1
+
+pub within : (s : List ℕ) (sections : Sections) → read_of s ≡ gives sections → Within s sections
 within s sections e =
     let p = read-good s sections e in
     let long : length s ≡ start_of_frames sections.filters + frame_bytes * sections.frames = p.0.whole in
-    (p.0.filters-within, omega (arith, p.1), omega (arith, p.2), p.0.frames-within)
+    record {
+      few-filters = p.0.filters-within;
+      few-frames = p.0.frames-within;
+      filters-within = omega (arith, p.1);
+      frames-within = omega (arith, p.2);
+      start-low = omega (arith, p.1);
+      frames-low = omega (arith, p.2, p.0.filters-within);
+      kinds = λ i l. rw p.1 (p.0.kinds i l);
+    }

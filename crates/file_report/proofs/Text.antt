@@ -1,5 +1,5 @@
 -- The text's parts grow at their ends: one mark, one line, one count more; and how long they are. Assumes nothing.
-use Prim.Native.Nat.{ℕ, zero, suc, ◌+◌, ◌≤◌}
+use Prim.Native.Nat.{ℕ, zero, suc, ◌+◌, ◌≤◌, max}
 use mathlib.Core.Path.{◌≡◌, refl, sym, ap, ap₂, ◌∙◌}
 use mathlib.Core.Bool.{Bool, true, false, cond, ◌||◌}
 use mathlib.Core.List.{List, [], ◌∷◌, ◌++◌, append_assoc, append-nil}
@@ -47,6 +47,10 @@ width-none n e = rw (eq-eqb n 0 e)
 pub width_some : (n : ℕ) → (n ≡ 0 → ⊥) → width_of n ≡ n
 unfolding width_of
 width_some n e = rw (ne_eqb n 0 e)
+
+pub width-max : (n : ℕ) → max n 1 ≡ width_of n
+width-max zero = sym (width-none 0 refl)
+width-max (suc n) = omega arith ∙ sym (width_some (suc n) (λ e. omega arith))
 
 pub marks-none : (row : List Bool) → length row ≡ 0 → marks_of row ≡ ascii "-"
 unfolding marks_of

@@ -1,42 +1,39 @@
--- The filters as the code holds them, and their verdicts by places and counts. No promise of a public function cites these forms:
+-- The filters as the matcher holds them, and the frames' rows by their index. No promise of a public function cites these forms:
 -- proofs/Held shows that they are those of Text.
-use Rattle.std.specs.Prelude.{ℕ, ◌+◌, ◌*◌, ◌^◌, ◌<◌, ◌≡◌, Bool, List, get_or}
+use Rattle.std.specs.Prelude.{ℕ, ◌+◌, ◌*◌, Bool, true, false, eqb, List, map, get_or}
 use Rattle.laws.specs.Tabulate.{tabulate, part}
 use Rattle.filter_registers.specs.Registers.{code_in, mask_in}
 use Rattle.file_reading.specs.Format.{filter_bytes, frame_bytes}
 use Rattle.file_reading.specs.declared.Sections.{Sections}
+use Rattle.filter_matcher.specs.declared.Filter.{Filter}
+use Rattle.filter_matcher.specs.declared.Kind.{Kind}
+use Rattle.filter_matcher.specs.declared.Kind.TheVariants.{Single, Dual}
 use Rattle.filter_matcher.specs.declared.shown.Shown.{Shown}
-use Rattle.filter_matcher.specs.Shown.{show_of}
-use Rattle.filter_matcher.specs.Words.{compare_of}
-use Rattle.file_report.specs.Text.{Filter, filter_at, verdict}
-use Rattle.file_report.specs.declared.Filters.{Filters}
+use Rattle.filter_matcher.specs.Words.{is_dual, agrees_of}
+use Rattle.file_report.specs.Text.{filters_of, accepts}
 
--- a kind and two words are a filter's
-pub record Words (filter : Filter) (kind code mask : ℕ) : Type 0 where
-  pub same_kind : kind ≡ filter.kind
-  pub same_code : code ≡ code_in filter.registers
-  pub same-mask : mask ≡ mask_in filter.registers
-  pub code_fits : code < 2 ^ 32
-  pub mask_fits : mask < 2 ^ 32
+abbrev pub kind_by : Bool → Kind
+kind_by false = Single
+kind_by true = Dual
 
-abbrev pub WordsAt : List ℕ → ℕ → List ℕ → List ℕ → List ℕ → ℕ → Type 0
-WordsAt s start kinds codes masks i = Words (filter_at s (start + filter_bytes * i)) (get_or kinds i 0) (get_or codes i 0) (get_or masks i 0)
+-- the filter at a place, and those of a file
+abbrev pub held_at : List ℕ → ℕ → Filter
+held_at s at =
+    record { kind = kind_by (eqb (get_or s at 0) 1); code = code_in (part s (at + 1) 8); mask = mask_in (part s (at + 1) 8) }
 
--- the filters of a file are held
-pub record Holds (s : List ℕ) (sections : Sections) (held : Filters) : Type 0 where
-  pub as_many : held.count ≡ sections.filters
-  pub each : (i : ℕ) → i < sections.filters → WordsAt s sections.filters_start held.kinds held.codes held.masks i
+abbrev pub held_of : List ℕ → Sections → List Filter
+held_of s sections = tabulate sections.filters (λ i. held_at s (sections.filters_start + filter_bytes * i))
 
--- whether the filter at an index accepts what a frame shows, and each of so many filters
-abbrev pub verdict_by : List ℕ → List ℕ → List ℕ → Shown → ℕ → Bool
-verdict_by kinds codes masks shown i = verdict (compare_of (get_or kinds i 0) (get_or codes i 0) (get_or masks i 0) shown)
+-- whether a filter accepts what a frame shows
+abbrev pub agrees : Shown → Filter → Bool
+agrees shown filter = agrees_of (is_dual filter.kind) filter.code filter.mask shown
 
-unfoldable pub verdicts_by : ℕ → List ℕ → List ℕ → List ℕ → Shown → List Bool
-verdicts_by n kinds codes masks shown = tabulate n (verdict_by kinds codes masks shown)
+-- the frame at an index, and its row
+abbrev pub frame_at : List ℕ → Sections → ℕ → List ℕ
+frame_at s sections i = part s (sections.frames_start + frame_bytes * i) frame_bytes
 
--- the row of the frame at an index, where the first frame is at a place
-unfoldable pub row_by : List ℕ → Filters → ℕ → ℕ → List Bool
-row_by s held start i = verdicts_by held.count held.kinds held.codes held.masks (show_of (part s (start + frame_bytes * i) frame_bytes))
+unfoldable pub row_at : List ℕ → Sections → ℕ → List Bool
+row_at s sections i = map (accepts (frame_at s sections i)) (filters_of s sections)
 
-abbrev pub rows_by : List ℕ → Filters → Sections → List (List Bool)
-rows_by s held sections = tabulate sections.frames (row_by s held sections.frames_start)
+abbrev pub rows_in : List ℕ → Sections → List (List Bool)
+rows_in s sections = tabulate sections.frames (row_at s sections)

@@ -1,82 +1,50 @@
 // The report on a frame file: the text that the program prints for it, in a lent output.
 #![tactic(auto)]
 
-ghost use Rattle.std.specs.Prelude.{◌≡◌, cond, ◌||◌, ◌∷◌, [], ◌+◌, ◌*◌, ◌<◌, ◌≤◌, length};
-ghost use Rattle.laws.specs.Tabulate.{part};
+ghost use Rattle.std.specs.Prelude.{◌≡◌, ◌∷◌, [], ◌++◌, ◌+◌, ◌*◌, ◌<◌, ◌≤◌, length, take, get_or, IfOk, IfErr};
+ghost use Rattle.laws.specs.Ascii.{ascii};
+ghost use Rattle.laws.specs.Said.{gives};
+ghost use Rattle.laws.specs.Tabulate.{Bytes};
 ghost use Rattle.laws.specs.Laid.{laid_first, laid, laying, written};
+ghost use Rattle.refusals.specs.Table.{number_of, carried_of, in_one};
 ghost use Rattle.text.specs.Laying.{laying_said};
-ghost use Rattle.file_reading.specs.Format.{filter_limit, frame_limit, filter_bytes, frame_bytes};
+ghost use Rattle.file_reading.specs.Format.{filter_bytes};
+ghost use Rattle.file_reading.specs.Reader.{read_of};
 ghost use Rattle.filter_matcher.specs.Shown.{show_of};
-ghost use Rattle.filter_matcher.specs.Words.{compare_of, matching_said};
-ghost use Rattle.file_report.specs.Text.{verdict, mark_of, marks, any, line_of, lines_from, count_of, good_text, bad_text, text_of};
-ghost use Rattle.file_report.specs.Length.{line_length, lines_length, width_of};
-ghost use Rattle.file_report.specs.Held.{Holds, verdicts_by, rows_by};
+ghost use Rattle.file_report.specs.Text.{mark_of, marks_of, any, lines_from, count_of, good_text, bad_text, text_of};
+ghost use Rattle.file_report.specs.Length.{lines_length, width_of};
+ghost use Rattle.file_report.specs.Held.{held_at, held_of, frame_at, row_at, rows_in};
 
-use file_reading::{FILTER_BYTES, FILTER_LIMIT, FRAME_BYTES, Reading, Sections};
-use filter_matcher::Matching;
+use file_reading::{FILTER_BYTES, FILTER_LIMIT, FRAME_BYTES, Sections};
 use filter_matcher::shown::Shown;
+use filter_matcher::{Filter, Kind};
 use refusals::Refusal;
-use text::Laying;
 
-// How many filters there are, and of each its kind and the two words of its registers.
-#[derive(Clone, Copy)]
-struct Filters {
-    count: usize,
-    kinds: [u8; FILTER_LIMIT],
-    codes: [u32; FILTER_LIMIT],
-    masks: [u32; FILTER_LIMIT],
-}
-
-fn read_filters(file: &[u8], sections: Sections) -> Filters
-    requires { (sections.filters ≤ filter_limit)
-        × (sections.filters_start + filter_bytes * sections.filters ≤ length file.now) }
-    ensures { Holds file.now sections result }
+fn filter_at(file: &[u8], at: usize) -> Filter
+    requires { (at + filter_bytes ≤ length file.now) × (get_or file.now at 0 ≤ 1) }
+    ensures { result ≡ held_at file.now at }
 {
-    let count = sections.filters;
-    let mut kinds = [0u8; FILTER_LIMIT];
-    let mut codes = [0u32; FILTER_LIMIT];
-    let mut masks = [0u32; FILTER_LIMIT];
-    let mut at = sections.filters_start;
-    let mut i: usize = 0;
-    while i < count {
-        let registers = at + 1;
-        kinds[i] = file[at];
-        codes[i] = octets::word_at(file, registers);
-        masks[i] = octets::word_at(file, registers + 4);
-        at += FILTER_BYTES;
-        i += 1;
-    }
-    Filters {
-        count,
-        kinds,
-        codes,
-        masks,
+    Filter {
+        kind: Kind::try_from(file[at]).unwrap(),
+        code: octets::word_at(file, at + 1),
+        mask: octets::word_at(file, at + 5),
     }
 }
 
-fn shown_at(file: &[u8], at: usize) -> Shown
-    requires { at + frame_bytes ≤ length file.now }
-    ensures { result ≡ show_of (part file.now at frame_bytes) }
+fn read_filters(file: &[u8], sections: Sections) -> [Filter; FILTER_LIMIT]
+    requires { read_of file.now ≡ gives sections }
+    ensures { take sections.filters result ≡ held_of file.now sections }
 {
-    let frame = octets::thirteen(file, at);
-    filter_matcher::shown::show(&frame)
-}
-
-fn is_accepted(matching: Matching) -> bool
-    ensures { result ≡ verdict (matching_said matching) }
-{
-    match matching {
-        Matching::Accepted => true,
-        Matching::NotAccepted => false,
-        Matching::Refused(_) => false,
+    let blank = Filter {
+        kind: Kind::Single,
+        code: 0,
+        mask: 0,
+    };
+    let mut held = [blank; FILTER_LIMIT];
+    for i in 0..sections.filters {
+        held[i] = filter_at(file, sections.filters_start + FILTER_BYTES * i);
     }
-}
-
-// Whether a filter accepts what a frame shows.
-fn accepts(kind: u8, code: u32, mask: u32, shown: Shown) -> bool
-    ensures { result ≡ verdict (compare_of kind code mask shown) }
-{
-    is_accepted(filter_matcher::compare(kind, code, mask, shown))
+    held
 }
 
 fn mark(accepted: bool) -> u8
@@ -85,258 +53,181 @@ fn mark(accepted: bool) -> u8
     if accepted { b'1' } else { b'0' }
 }
 
-fn either(accepted: bool, any: bool) -> bool
-    ensures { result ≡ (accepted || any) }
-{
-    if accepted { true } else { any }
-}
-
-// A mark for each filter, for what a frame shows; and whether some filter accepts it.
-fn put_marks(
-    filters: usize,
-    kinds: &[u8; FILTER_LIMIT],
-    codes: &[u32; FILTER_LIMIT],
-    masks: &[u32; FILTER_LIMIT],
-    shown: Shown,
-    out: &mut [u8],
-    at: usize,
-) -> bool
-    requires { (filters ≤ filter_limit) × (at + filters ≤ length out.old) }
-    ensures { (result ≡ any (verdicts_by filters kinds.now codes.now masks.now shown))
-        × (out.new
-        ≡ laid at (marks (verdicts_by filters kinds.now codes.now masks.now shown)) out.old) }
-{
-    let mut any = false;
-    let mut i: usize = 0;
-    while i < filters {
-        let accepted = accepts(kinds[i], codes[i], masks[i], shown);
-        out[at + i] = mark(accepted);
-        any = either(accepted, any);
-        i += 1;
-    }
-    any
-}
-
-// The place after a frame's line, and whether some filter accepts the frame.
+// A file that was read, and its filters.
 #[derive(Clone, Copy)]
-struct Line {
-    end: usize,
-    any: bool,
+struct FrameFile<'a> {
+    bytes: &'a [u8],
+    sections: Sections,
+    filters: &'a [Filter],
+    ghost are_bytes: { Bytes bytes.now },
+    ghost is_read: { read_of bytes.now ≡ gives sections },
+    ghost are_held: { filters.now ≡ held_of bytes.now sections },
 }
 
-fn put_line(
-    filters: usize,
-    kinds: &[u8; FILTER_LIMIT],
-    codes: &[u32; FILTER_LIMIT],
-    masks: &[u32; FILTER_LIMIT],
-    shown: Shown,
-    index: usize,
-    out: &mut [u8],
-    at: usize,
-) -> Line
-    requires { (filters ≤ filter_limit) × (at + line_length filters index ≤ length out.old) }
-    ensures { (result.end ≡ at + line_length filters index)
-        × (result.any ≡ any (verdicts_by filters kinds.now codes.now masks.now shown))
-        × (out.new
-        ≡ laid at (line_of index (verdicts_by filters kinds.now codes.now masks.now shown)) out.old) }
-{
-    let space = text::put_decimal(out, at, index);
-    out[space] = b' ';
-    let marks = space + 1;
-    if filters == 0 {
-        out[marks] = b'-';
-        out[marks + 1] = b'\n';
-        return Line {
-            end: marks + 2,
-            any: false,
-        };
+impl<'a> FrameFile<'a> {
+    // What a frame shows.
+    fn shown(&self, index: usize) -> Shown
+        requires { index < self.now.sections.frames }
+        ensures { result ≡ show_of (frame_at self.now.bytes.now self.now.sections index) }
+    {
+        let at = self.sections.frames_start + FRAME_BYTES * index;
+        filter_matcher::shown::show(&octets::array_at(self.bytes, at))
     }
-    let any = put_marks(filters, kinds, codes, masks, shown, out, marks);
-    let newline = marks + filters;
-    out[newline] = b'\n';
-    Line {
-        end: newline + 1,
-        any,
+
+    // Whether some filter accepts a frame.
+    fn is_accepted(&self, index: usize) -> bool
+        requires { index < self.now.sections.frames }
+        ensures { result ≡ any (row_at self.now.bytes.now self.now.sections index) }
+    {
+        let shown = self.shown(index);
+        self.filters.iter().any(|filter| filter.accepts(shown))
     }
-}
 
-// The place after all lines, and how many frames some filter accepts.
-#[derive(Clone, Copy)]
-struct Lines {
-    end: usize,
-    count: usize,
-}
-
-fn counted(count: usize, any: bool) -> usize
-    requires { count < 5000 }
-    ensures { result ≡ count + cond any 1 0 }
-{
-    if any { count + 1 } else { count }
-}
-
-fn put_lines(file: &[u8], filters: Filters, sections: Sections, out: &mut [u8]) -> Lines
-    requires { (filters.count ≤ filter_limit)
-        × (sections.frames_start + frame_bytes * sections.frames ≤ length file.now)
-        × (sections.frames ≤ frame_limit)
-        × (lines_length filters.count sections.frames ≤ length out.old) }
-    ensures { (result.end ≡ lines_length filters.count sections.frames)
-        × (result.count ≡ count_of (rows_by file.now filters sections))
-        × (out.new ≡ laid 0 (lines_from 0 (rows_by file.now filters sections)) out.old) }
-{
-    let kinds = filters.kinds;
-    let codes = filters.codes;
-    let masks = filters.masks;
-    let mut at: usize = 0;
-    let mut count: usize = 0;
-    let mut i: usize = 0;
-    let mut frame = sections.frames_start;
-    while i < sections.frames {
-        let shown = shown_at(file, frame);
-        let line = put_line(filters.count, &kinds, &codes, &masks, shown, i, out, at);
-        at = line.end;
-        count = counted(count, line.any);
-        frame += FRAME_BYTES;
-        i += 1;
-    }
-    Lines { end: at, count }
-}
-
-fn width(filters: usize) -> usize
-    requires { filters ≤ filter_limit }
-    ensures { (result ≡ width_of filters) × (result ≤ 16) }
-{
-    if filters == 0 {
-        return 1;
-    }
-    filters
-}
-
-fn lines_length(filters: usize, frames: usize) -> usize
-    requires { (filters ≤ filter_limit) × (frames ≤ frame_limit) }
-    ensures { (result ≡ lines_length filters frames) × (result ≤ 1000 * frames) }
-{
-    let marks = width(filters);
-    let mut length: usize = 0;
-    let mut i: usize = 0;
-    while i < frames {
-        length += text::digits(i) + 2 + marks;
-        i += 1;
-    }
-    length
-}
-
-// Whether some filter accepts what a frame shows.
-fn any_accepts(
-    filters: usize,
-    kinds: &[u8; FILTER_LIMIT],
-    codes: &[u32; FILTER_LIMIT],
-    masks: &[u32; FILTER_LIMIT],
-    shown: Shown,
-) -> bool
-    requires { filters ≤ filter_limit }
-    ensures { result ≡ any (verdicts_by filters kinds.now codes.now masks.now shown) }
-{
-    let mut i: usize = 0;
-    while i < filters {
-        if accepts(kinds[i], codes[i], masks[i], shown) {
-            return true;
+    // A mark for each filter, or a dash, and a newline; and whether some filter accepts the frame.
+    fn put_marks(&self, index: usize, out: &mut [u8], at: usize) -> bool
+        requires { (index < self.now.sections.frames)
+            × (at + width_of self.now.sections.filters + 1 ≤ length out.old) }
+        ensures { (result ≡ any (row_at self.now.bytes.now self.now.sections index))
+            × (out.new
+            ≡ laid at (marks_of (row_at self.now.bytes.now self.now.sections index) ++ ascii "\n") out.old) }
+    {
+        if self.filters.is_empty() {
+            out[at] = b'-';
+            out[at + 1] = b'\n';
+            return false;
         }
-        i += 1;
+        let shown = self.shown(index);
+        let mut any = false;
+        for (i, filter) in self.filters.iter().enumerate() {
+            let accepted = filter.accepts(shown);
+            out[at + i] = mark(accepted);
+            any |= accepted;
+        }
+        out[at + self.filters.len()] = b'\n';
+        any
     }
-    false
+
+    // A line for each frame, and how many frames some filter accepts.
+    fn put_lines(&self, out: &mut [u8]) -> usize
+        requires { lines_length self.now.sections.filters self.now.sections.frames ≤ length out.old }
+        ensures { (result ≡ count_of (rows_in self.now.bytes.now self.now.sections))
+            × (out.new ≡ laid 0 (lines_from 0 (rows_in self.now.bytes.now self.now.sections)) out.old) }
+    {
+        let width = self.width();
+        let mut at = 0;
+        let mut count = 0;
+        for index in 0..self.sections.frames {
+            let space = text::put_decimal(out, at, index);
+            out[space] = b' ';
+            let any = self.put_marks(index, out, space + 1);
+            at = space + width + 2;
+            count += usize::from(any);
+        }
+        count
+    }
+
+    fn width(&self) -> usize
+        ensures { (result ≡ width_of self.now.sections.filters) × (result ≤ 16) }
+    {
+        self.filters.len().max(1)
+    }
+
+    fn lines_length(&self) -> usize
+        ensures { (result ≡ lines_length self.now.sections.filters self.now.sections.frames)
+            × (result ≤ 1000 * self.now.sections.frames) }
+    {
+        let width = self.width();
+        let mut length = 0;
+        for index in 0..self.sections.frames {
+            length += text::digits(index) + 2 + width;
+        }
+        length
+    }
+
+    // How many frames some filter accepts.
+    fn accepted(&self) -> usize
+        ensures { result ≡ count_of (rows_in self.now.bytes.now self.now.sections) }
+    {
+        let mut count = 0;
+        for index in 0..self.sections.frames {
+            count += usize::from(self.is_accepted(index));
+        }
+        count
+    }
+
+    // Where there is room for any count of frames, they are not matched.
+    fn judge(&self, lines: usize, room: usize) -> Result<(), Refusal>
+        requires { (lines ≡ lines_length self.now.sections.filters self.now.sections.frames)
+            × (lines ≤ 1000 * self.now.sections.frames) }
+        ensures ok { IfOk result (λ _. length (text_of self.now.bytes.now) ≤ room) }
+        ensures err { IfErr result (λ refusal. (refusal ≡ Refusal.OutputTooShort (length (text_of self.now.bytes.now)))
+            × (room < length (text_of self.now.bytes.now))) }
+    {
+        if lines + 14 <= room {
+            return Ok(());
+        }
+        let needed = lines + 9 + text::digits(self.accepted()) + 1;
+        if room < needed {
+            return Err(Refusal::OutputTooShort(needed));
+        }
+        Ok(())
+    }
+
+    // The whole text, and its length.
+    fn put(&self, lines: usize, out: &mut [u8]) -> usize
+        requires { (lines ≡ lines_length self.now.sections.filters self.now.sections.frames)
+            × (length (text_of self.now.bytes.now) ≤ length out.old) }
+        ensures { (result ≡ length (text_of self.now.bytes.now))
+            × (out.new ≡ laid_first (text_of self.now.bytes.now) out.old) }
+    {
+        let count = self.put_lines(out);
+        let number = text::put_text(out, lines, b"accepted ");
+        let newline = text::put_decimal(out, number, count);
+        out[newline] = b'\n';
+        newline + 1
+    }
+
+    fn lay(&self, out: &mut [u8]) -> Result<usize, Refusal>
+        ensures { (laying_said result ≡ laying (text_of self.now.bytes.now) out.old)
+            × (out.new ≡ written (laying (text_of self.now.bytes.now) out.old) (text_of self.now.bytes.now) out.old) }
+    {
+        let lines = self.lines_length();
+        self.judge(lines, out.len())?;
+        Ok(self.put(lines, out))
+    }
 }
 
-// How many frames some filter accepts.
-fn accepted(file: &[u8], filters: Filters, sections: Sections) -> usize
-    requires { (filters.count ≤ filter_limit)
-        × (sections.frames_start + frame_bytes * sections.frames ≤ length file.now)
-        × (sections.frames ≤ frame_limit) }
-    ensures { result ≡ count_of (rows_by file.now filters sections) }
-{
-    let kinds = filters.kinds;
-    let codes = filters.codes;
-    let masks = filters.masks;
-    let mut count: usize = 0;
-    let mut i: usize = 0;
-    let mut frame = sections.frames_start;
-    while i < sections.frames {
-        let shown = shown_at(file, frame);
-        count = counted(
-            count,
-            any_accepts(filters.count, &kinds, &codes, &masks, shown),
-        );
-        frame += FRAME_BYTES;
-        i += 1;
-    }
-    count
-}
-
-// The whole text of a file that is read, and its length.
-fn put_good(file: &[u8], filters: Filters, sections: Sections, out: &mut [u8]) -> usize
-    requires { (filters.count ≤ filter_limit)
-        × (sections.frames_start + frame_bytes * sections.frames ≤ length file.now)
-        × (sections.frames ≤ frame_limit)
-        × (length (good_text (rows_by file.now filters sections)) ≤ length out.old) }
-    ensures { (result ≡ length (good_text (rows_by file.now filters sections)))
-        × (out.new ≡ laid_first (good_text (rows_by file.now filters sections)) out.old) }
-{
-    let lines = put_lines(file, filters, sections, out);
-    let number = text::put_text(out, lines.end, b"accepted ");
-    let newline = text::put_decimal(out, number, lines.count);
-    out[newline] = b'\n';
-    newline + 1
-}
-
-// Where there is room for any count of frames, they are matched once.
-fn report_good(file: &[u8], filters: Filters, sections: Sections, out: &mut [u8]) -> Laying
-    requires { (filters.count ≤ filter_limit)
-        × (sections.frames_start + frame_bytes * sections.frames ≤ length file.now)
-        × (sections.frames ≤ frame_limit) }
-    ensures { (laying_said result ≡ laying (good_text (rows_by file.now filters sections)) out.old)
-        × (out.new
-        ≡ written (laying (good_text (rows_by file.now filters sections)) out.old)
-        (good_text (rows_by file.now filters sections)) out.old) }
-{
-    let lines = lines_length(filters.count, sections.frames);
-    if lines + 14 <= out.len() {
-        return Laying::Laid(put_good(file, filters, sections, out));
-    }
-    let count = accepted(file, filters, sections);
-    let needed = lines + (9 + (text::digits(count) + 1));
-    if out.len() < needed {
-        return Laying::Refused(Refusal::OutputTooShort(needed));
-    }
-    Laying::Laid(put_good(file, filters, sections, out))
-}
-
-fn report_bad(number: usize, place: usize, out: &mut [u8]) -> Laying
+fn report_bad(number: usize, place: usize, out: &mut [u8]) -> Result<usize, Refusal>
     ensures { (laying_said result ≡ laying (bad_text number place) out.old)
         × (out.new ≡ written (laying (bad_text number place) out.old) (bad_text number place) out.old) }
 {
     let needed = 8 + (text::digits(number) + (4 + (text::digits(place) + 1)));
     if out.len() < needed {
-        return Laying::Refused(Refusal::OutputTooShort(needed));
+        return Err(Refusal::OutputTooShort(needed));
     }
     let start = text::put_text(out, 0, b"refused ");
     let end = text::put_decimal(out, start, number);
     let at = text::put_text(out, end, b" at ");
     let newline = text::put_decimal(out, at, place);
     out[newline] = b'\n';
-    Laying::Laid(needed)
+    Ok(needed)
 }
 
-pub fn report(file: &[u8], out: &mut [u8]) -> Laying
+pub fn report(file: &[u8], out: &mut [u8]) -> Result<usize, Refusal>
     ensures result_value { laying_said result ≡ laying (text_of file.now) out.old }
     ensures out_after { out.new ≡ written (laying (text_of file.now) out.old) (text_of file.now) out.old }
 {
-    let reading = file_reading::read_file(file);
-    match reading {
-        Reading::Read(sections) => {
-            let filters = read_filters(file, sections);
-            report_good(file, filters, sections, out)
+    match file_reading::read_file(file) {
+        Ok(sections) => {
+            let held = read_filters(file, sections);
+            let filters = &held[..sections.filters];
+            let frame_file = FrameFile {
+                bytes: file,
+                sections,
+                filters,
+            };
+            frame_file.lay(out)
         }
-        Reading::Refused(refusal) => {
-            report_bad(refusal.number() as usize, refusal.carried() as usize, out)
-        }
+        Err(refusal) => report_bad(refusal.number() as usize, refusal.carried() as usize, out),
     }
 }

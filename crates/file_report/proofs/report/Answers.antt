@@ -1,38 +1,23 @@
 -- `file_report::report` meets its contract: the text is that of what the reader answered. Assumes nothing.
-use mathlib.Core.Path.{sym, ap, ap₂, ◌∙◌}
-use native.Mathlib.Omega.{arith}
-use Rattle.file_reading.specs.Reader.{reading_said}
+use Rattle.std.proofs.Common.{sym, ap₂, ◌∙◌, arith}
+use lib.ListN.{length-take}
 use Rattle.file_report.specs.Text.{bad_text}
-use Rattle.file_report.proofs.Held.{text-read}
-use Rattle.file_report.proofs.Frames.{within, text-refused, same_text}
+use Rattle.file_report.proofs.Held.{held-many}
+use Rattle.file_report.proofs.Frames.{text-refused, same_text}
 use Rattle.file_report.proofs.report.Goals as goal
 
-pub read_filters-filters-requires : goal.read_filters-filters-requires
-read_filters-filters-requires c =
-    let read = sym c.read_file-reading.ensures ∙ ap reading_said c.in-Read.is in
-    let room = within c.args.file.now _ read in
-    (room.0, room.1)
+pub slice_bounds-held-end : goal.slice_bounds-held-end
+slice_bounds-held-end c =
+    let many = held-many c.args.file.now c.in-Ok.sections _ c.read_filters-held.ensures in
+    omega (arith, simp length-take at many)
 
-pub report_good-requires : goal.report_good-requires
-report_good-requires c =
-    let read = sym c.read_file-reading.ensures ∙ ap reading_said c.in-Read.is in
-    let room = within c.args.file.now _ read in
-    (omega (arith, room.0, c.read_filters-filters.ensures.as_many), room.2, room.3)
+pub slice_bounds-filters-end : goal.slice_bounds-filters-end
+slice_bounds-filters-end c = sym (held-many c.args.file.now c.in-Ok.sections _ c.read_filters-held.ensures)
 
-pub returns-in-Read : goal.returns-in-Read
-returns-in-Read c =
+pub returns-in-Err : goal.returns-in-Err
+returns-in-Err c =
     let both =
-    let read = sym c.read_file-reading.ensures ∙ ap reading_said c.in-Read.is in
     let args = c.args in
-    same_text _ _ args.out.now _ _ (text-read args.file.now _ _ c.read_filters-filters.ensures read)
-    c.report_good.ensures in record { result_value = both.0; out_after = both.1 }
-
-pub returns-in-Refused : goal.returns-in-Refused
-returns-in-Refused c =
-    let both =
-    let read = sym c.read_file-reading.ensures ∙ ap reading_said c.in-Refused.is in
-    let args = c.args in
-    let refused = text-refused args.file.now _ read in
-    same_text _ _ args.out.now _ _
-    (refused ∙ ap₂ bad_text (sym c.number.ensures) (sym c.carried.ensures))
-    c.report_bad.ensures in record { result_value = both.0; out_after = both.1 }
+    let refused = text-refused args.file.now _ (sym c.in-Err.ensures) in
+    same_text _ _ args.out.now _ _ (refused ∙ ap₂ bad_text (sym c.number.ensures) (sym c.carried.ensures)) c.report_bad.ensures in
+    record { result_value = both.0; out_after = both.1 }
