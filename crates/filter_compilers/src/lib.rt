@@ -64,14 +64,14 @@ fn exchanged(bits: u64, kept: u64, moved: u64, by: u32) -> u64
 
 // The code below 2^32, and above it a bit for each `x`. The marks of four words make a square of eight times eight bits, a row for the
 // places that stand alike in their words; turned about its diagonal, it has the code's four bytes and those of the `x`.
-fn read(row: [u8; 32]) -> u64
-    requires { all_characters row ≡ true }
-    ensures { (result % 2 ^ 32 ≡ code_of (run 0 32) row) × (2 ^ 32 - 1 - result / 2 ^ 32 ≡ mask_of (run 0 32) row) }
+fn read(row: &[u8; 32]) -> u64
+    requires { all_characters row.now ≡ true }
+    ensures { (result % 2 ^ 32 ≡ code_of (run 0 32) row.now) × (2 ^ 32 - 1 - result / 2 ^ 32 ≡ mask_of (run 0 32) row.now) }
 {
-    let first = marks(eight(&row, 0)) * 8;
-    let second = marks(eight(&row, 8)) * 4;
-    let third = marks(eight(&row, 16)) * 2;
-    let square = first | (second | (third | marks(eight(&row, 24))));
+    let first = marks(eight(row, 0)) * 8;
+    let second = marks(eight(row, 8)) * 4;
+    let third = marks(eight(row, 16)) * 2;
+    let square = first | (second | (third | marks(eight(row, 24))));
     let pairs = exchanged(square, 0xAA55_AA55_AA55_AA55, 0x00AA_00AA_00AA_00AA, 7);
     let fours = exchanged(pairs, 0xCCCC_3333_CCCC_3333, 0x0000_CCCC_0000_CCCC, 14);
     exchanged(fours, 0xF0F0_F0F0_0F0F_0F0F, 0x0000_0000_F0F0_F0F0, 28)
@@ -96,13 +96,13 @@ fn judge_characters(row: &[u8; 32], patterns: &[&[u8]]) -> Result<(), Refusal>
 }
 
 // The answer for fields that are drawn in a row.
-fn compile(row: [u8; 32], patterns: &[&[u8]]) -> Result<[u8; 8], Refusal>
+fn compile(row: &[u8; 32], patterns: &[&[u8]]) -> Result<[u8; 8], Refusal>
     requires { (length patterns.now ≤ 5) × (length (joined (map (λ p. p.now) patterns.now)) ≤ 32)
-        × (all_characters row ≡ all_characters (joined (map (λ p. p.now) patterns.now))) }
+        × (all_characters row.now ≡ all_characters (joined (map (λ p. p.now) patterns.now))) }
     ensures { compiled_said result ≡ answered (characters_of 0 (map (λ p. p.now) patterns.now))
-        (registers_of (code_of (run 0 32) row) (mask_of (run 0 32) row)) }
+        (registers_of (code_of (run 0 32) row.now) (mask_of (run 0 32) row.now)) }
 {
-    judge_characters(&row, patterns)?;
+    judge_characters(row, patterns)?;
     let both = read(row);
     Ok(filter_registers::made(
         (both % 0x1_0000_0000) as u32,
@@ -125,7 +125,7 @@ pub fn single_standard(
     // identifier 31 to 21, RTR 20, data bytes 15 to 8 and 7 to 0
     let identified = drawn(drawn([b'x'; 32], 21, id), 20, rtr);
     let row = drawn(drawn(identified, 8, first), 0, second);
-    compile(row, &[id, rtr, first, second])
+    compile(&row, &[id, rtr, first, second])
 }
 
 pub fn single_extended(id: &[u8], rtr: &[u8]) -> Result<[u8; 8], Refusal>
@@ -134,7 +134,7 @@ pub fn single_extended(id: &[u8], rtr: &[u8]) -> Result<[u8; 8], Refusal>
     judge_lengths([id.len(), rtr.len()], [29, 1])?;
     // identifier 31 to 3, RTR 2
     let row = drawn(drawn([b'x'; 32], 3, id), 2, rtr);
-    compile(row, &[id, rtr])
+    compile(&row, &[id, rtr])
 }
 
 pub fn dual_standard(
@@ -162,7 +162,7 @@ pub fn dual_standard(
     let second = drawn(drawn(first, 5, second_id), 4, second_rtr);
     let row = drawn(second, 0, &first_payload[4..]);
     compile(
-        row,
+        &row,
         &[first_id, first_rtr, first_payload, second_id, second_rtr],
     )
 }
@@ -173,5 +173,5 @@ pub fn dual_extended(first: &[u8], second: &[u8]) -> Result<[u8; 8], Refusal>
     judge_lengths([first.len(), second.len()], [16, 16])?;
     // 31 to 16, 15 to 0
     let row = drawn(drawn([b'x'; 32], 16, first), 0, second);
-    compile(row, &[first, second])
+    compile(&row, &[first, second])
 }

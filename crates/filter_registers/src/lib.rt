@@ -17,6 +17,6 @@ pub fn refused(refusal: Refusal) -> Result<[u8; 8], Refusal>
 pub fn made(code: u32, mask: u32) -> [u8; 8]
     ensures { result ≡ registers_of code mask }
 {
-    let word = ((code as u64) << 32) | (!mask as u64);
+    let word = (u64::from(code) << 32) + 0xFFFF_FFFF - u64::from(mask);
     word.to_be_bytes()
 }

@@ -39,10 +39,11 @@ fn dual_standard_word(
     requires { (first.0 < 2048) × (second.0 < 2048) }
     ensures { result ≡ laid_of (fields_of dual_standard) (first.0 ∷ bit first_rtr ∷ payload ∷ second.0 ∷ bit second_rtr ∷ []) }
 {
-    let high = u32::from(payload / 16);
-    let low = u32::from(payload % 16);
+    let high = u32::from(payload) / 16;
+    let low = u32::from(payload) % 16;
     let upper = (u32::from(first.0) << 21) + (u32::from(first_rtr) << 20) + (high << 16);
-    upper + (u32::from(second.0) << 5) + (u32::from(second_rtr) << 4) + low
+    let lower = (u32::from(second.0) << 5) + (u32::from(second_rtr) << 4) + low;
+    upper + lower
 }
 
 fn dual_extended_word(first: u16, second: u16) -> u32
