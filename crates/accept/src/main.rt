@@ -2,80 +2,51 @@
 // says in words why a file is refused, and behind `error:` what went wrong with input or output.
 #![tactic(auto)]
 
-use standard_input::Input;
-use text::Laying;
+use std::io::Write;
+use thiserror::Error;
 
-const STANDARD_OUTPUT: i32 = 1;
-
-const STANDARD_ERROR: i32 = 2;
-
-// What was printed on standard output: a report with each frame's verdicts, one that says `refused`, or not all of it.
-#[derive(Clone, Copy)]
-enum Printed {
-    Verdicts,
-    Refusal,
-    Failed,
-}
-
-fn kind_of(first: u8) -> Printed {
-    if first == b'r' {
-        return Printed::Refusal;
-    }
-    Printed::Verdicts
-}
-
-// The longest report is shorter than the buffer: 4,096 lines of at most 22 characters, and the last.
-fn print_report(file: &[u8]) -> Printed {
-    let mut text = [0u8; 131072];
-    match file_report::report(file, &mut text) {
-        Laying::Laid(length) => {
-            if length <= 131072 {
-                if io::write_all(STANDARD_OUTPUT, &text[..length]) {
-                    return kind_of(text[0]);
-                }
-            }
-            Printed::Failed
-        }
-        Laying::Refused(_) => Printed::Failed,
-    }
+#[derive(Clone, Copy, Debug, Error)]
+enum Failure {
+    #[error("standard input can't be read")]
+    Input,
+    #[error("the report can't be written")]
+    Report,
 }
 
 // No words are longer than the buffer.
-fn print_words(file: &[u8]) {
+fn print_words(rt: &HostRuntime, file: &[u8]) {
     let mut text = [0u8; 128];
-    match file_words::words(file, &mut text) {
-        Laying::Laid(length) => {
-            if length <= 128 {
-                io::write_all(STANDARD_ERROR, b"accept: ");
-                io::write_all(STANDARD_ERROR, &text[..length]);
-            }
-        }
-        Laying::Refused(_) => {}
+    let Ok(length) = file_words::words(file, &mut text) else {
+        return;
+    };
+    if let Some(words) = text.get(..length) {
+        let _ = rt.stderr().write_all(b"accept: ");
+        let _ = rt.stderr().write_all(words);
     }
 }
 
-fn print_all(file: &[u8]) {
-    match print_report(file) {
-        Printed::Verdicts => {}
-        Printed::Refusal => print_words(file),
-        Printed::Failed => {
-            io::write_all(
-                STANDARD_ERROR,
-                b"accept: error: the report can't be written\n",
-            );
-        }
+// The longest report is shorter than the buffer: 4,096 lines of at most 22 characters, and the last.
+fn print_report(rt: &HostRuntime, file: &[u8]) -> Result<(), Failure> {
+    let mut text = [0u8; 131072];
+    let length = file_report::report(file, &mut text).map_err(|_| Failure::Report)?;
+    let report = text.get(..length).ok_or(Failure::Report)?;
+    rt.stdout().write_all(report).map_err(|_| Failure::Report)?;
+    if report.starts_with(b"refused") {
+        print_words(rt, file);
     }
+    Ok(())
+}
+
+fn answer(rt: &HostRuntime) -> Result<(), Failure> {
+    let mut file = [0u8; 53396];
+    let length = standard_input::read_input(&mut rt.stdin(), &mut file).map_err(
+        |_| Failure::Input,
+    )?;
+    print_report(rt, &file[..length])
 }
 
 fn main(rt: HostRuntime) {
-    let mut file = [0u8; 53396];
-    match standard_input::read_input(&mut rt.stdin(), &mut file) {
-        Input::Read(length) => print_all(&file[..length]),
-        Input::Failed => {
-            io::write_all(
-                STANDARD_ERROR,
-                b"accept: error: standard input can't be read\n",
-            );
-        }
+    if let Err(failure) = answer(&rt) {
+        let _ = eprintln!(rt; "accept: error: {failure}");
     }
 }

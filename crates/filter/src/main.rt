@@ -2,114 +2,74 @@
 // before it `--hex` where bare numbers are hexadecimal. Standard error says behind `error:` what went wrong with input, output or the arguments.
 #![tactic(auto)]
 
-use standard_input::Input;
 use std::env::Env;
-use text::Laying;
+use std::io::Write;
+use thiserror::Error;
 
-const STANDARD_OUTPUT: i32 = 1;
+#[derive(Clone, Copy, Debug, Error)]
+enum Failure {
+    #[error("the format is standard or extended")]
+    Format,
+    #[error("standard input can't be read")]
+    Input,
+    #[error("the text is longer than can be")]
+    TooLong,
+    #[error("the text can't be written")]
+    Output,
+}
 
-const STANDARD_ERROR: i32 = 2;
+#[derive(Clone, Copy, Debug, PartialEq, Eq)]
+struct Request {
+    extended: bool,
+    hex: bool,
+}
 
-fn print(text: &[u8]) {
-    if !io::write_all(STANDARD_OUTPUT, text) {
-        io::write_all(
-            STANDARD_ERROR,
-            b"filter: error: the text can't be written\n",
-        );
+// An argument, or nothing where it is missing or longer than any that has a meaning.
+fn argument<'a>(rt: &HostRuntime, place: usize, word: &'a mut [u8; 16]) -> &'a [u8] {
+    match rt.arg(place, word) {
+        Ok(length) => &word[..length],
+        Err(_) => &[],
+    }
+}
+
+fn requested(rt: &HostRuntime) -> Result<Request, Failure> {
+    let mut word = [0u8; 16];
+    let hex = argument(rt, 1, &mut word) == b"--hex".as_slice();
+    let format = if hex { 2 } else { 1 };
+    match argument(rt, format, &mut word) {
+        b"standard" => Ok(Request {
+            extended: false,
+            hex,
+        }),
+        b"extended" => Ok(Request {
+            extended: true,
+            hex,
+        }),
+        _ => Err(Failure::Format),
     }
 }
 
 // No text is longer than the buffer.
-fn print_text(extended: bool, hex: bool, list: &[u8]) {
+fn print_text(rt: &HostRuntime, request: Request, list: &[u8]) -> Result<(), Failure> {
     let mut text = [0u8; 512];
-    match filter_report::filter_text(extended, hex, list, &mut text) {
-        Laying::Laid(length) => {
-            if length <= 512 {
-                print(&text[..length]);
-            }
-        }
-        Laying::Refused(_) => {
-            io::write_all(
-                STANDARD_ERROR,
-                b"filter: error: the text is longer than can be\n",
-            );
-        }
-    }
+    let length = filter_report::filter_text(request.extended, request.hex, list, &mut text).map_err(
+        |_| Failure::TooLong,
+    )?;
+    let text = text.get(..length).ok_or(Failure::TooLong)?;
+    rt.stdout().write_all(text).map_err(|_| Failure::Output)
 }
 
-fn print_filter(rt: &HostRuntime, extended: bool, hex: bool) {
+fn print_filter(rt: &HostRuntime) -> Result<(), Failure> {
+    let request = requested(rt)?;
     let mut list = [0u8; 65537];
-    match standard_input::read_input(&mut rt.stdin(), &mut list) {
-        Input::Read(length) => print_text(extended, hex, &list[..length]),
-        Input::Failed => {
-            io::write_all(
-                STANDARD_ERROR,
-                b"filter: error: standard input can't be read\n",
-            );
-        }
-    }
-}
-
-fn same(word: &[u8], other: &[u8]) -> bool {
-    if word.len() != other.len() {
-        return false;
-    }
-    let mut i: usize = 0;
-    while i < word.len() {
-        if word[i] != other[i] {
-            return false;
-        }
-        i += 1;
-    }
-    true
-}
-
-fn print_by(rt: &HostRuntime, format: &[u8], hex: bool) {
-    if same(format, b"standard") {
-        print_filter(rt, false, hex);
-        return;
-    }
-    if same(format, b"extended") {
-        print_filter(rt, true, hex);
-        return;
-    }
-    io::write_all(
-        STANDARD_ERROR,
-        b"filter: error: the format is standard or extended\n",
-    );
-}
-
-// Puts an argument at the start of a word, and tells its length, or 0 where it is missing or longer than the word.
-fn argument(rt: &HostRuntime, place: usize, word: &mut [u8]) -> usize {
-    match rt.arg(place, word) {
-        Ok(length) => length,
-        Err(_) => 0,
-    }
-}
-
-// The argument at a place is the format.
-fn print_as(rt: &HostRuntime, place: usize, hex: bool) {
-    let mut word = [0u8; 16];
-    let length = argument(rt, place, &mut word);
-    if length <= 16 {
-        print_by(rt, &word[..length], hex);
-    }
-}
-
-// Whether the first argument is `--hex`.
-fn asks_hex(rt: &HostRuntime) -> bool {
-    let mut word = [0u8; 16];
-    let length = argument(rt, 1, &mut word);
-    if length <= 16 {
-        return same(&word[..length], b"--hex");
-    }
-    false
+    let length = standard_input::read_input(&mut rt.stdin(), &mut list).map_err(
+        |_| Failure::Input,
+    )?;
+    print_text(rt, request, &list[..length])
 }
 
 fn main(rt: HostRuntime) {
-    if asks_hex(&rt) {
-        print_as(&rt, 2, true);
-        return;
+    if let Err(failure) = print_filter(&rt) {
+        let _ = eprintln!(rt; "filter: error: {failure}");
     }
-    print_as(&rt, 1, false);
 }
