@@ -7,6 +7,6 @@ pub returns-then-at-eq0 : goal.returns-then-at-eq0
 unfolding count_words
 returns-then-at-eq0 c = rw (eq-eqb c.args.at 0 c.if-at-eq0.true, ← c.byte_at.ensures.0) c.put_numbers.ensures
 
-pub returns : goal.returns
+pub returns-else-at-eq0 : goal.returns-else-at-eq0
 unfolding count_words
-returns c = rw (ne_eqb c.args.at 0 c.if-at-eq0.false, ← c.count_at.ensures) c.put_numbers-2.ensures
+returns-else-at-eq0 c = rw (ne_eqb c.args.at 0 c.if-at-eq0.false, ← c.count_at.ensures) c.put_numbers-else-at-eq0.ensures

@@ -1,15 +1,17 @@
 -- `file_words::put_numbers` meets its contract: the second number and the last text go behind the first two texts. Assumes nothing.
-use native.Mathlib.Omega.{arith}
-use Rattle.file_words.proofs.Page.{numbers-put}
-use borrow.Author.Rules.{rules}
+use Rattle.std.proofs.Common.{◌∙◌, ap, ◌++◌, length, arith, rules}
+use Rattle.file_words.proofs.Page.{around-long, regrouped}
+use Rattle.file_words.specs.Words.{around}
 use Rattle.file_words.proofs.put_numbers.Goals as goal
+
+pub put_number-requires-2 : goal.put_number-requires-2
+put_number-requires-2 c =
+    let args = c.args in
+    let first = c.put_number.ensures ∙ ap (λ p. p ++ around args.before.now args.n args.between.now) c.requires.0 in
+    omega (arith, ap length first, around-long args.before.now args.between.now args.n (search rules))
 
 pub returns : goal.returns
 returns c =
     let args = c.args in
-    let first = c.put_number-number in
-    let second = c.put_decimal-rest in
-    let third = c.put_text in
-    numbers-put args.before.now args.between.now args.behind.now args.page.now first.new.page second.new.out third.new.out args.n args.m _ _ _
-    (search rules) (omega arith) (omega arith) first.ensures.0 first.ensures.1 first.ensures.2
-    second.ensures.value second.ensures.out_after third.ensures.value third.ensures.out_after
+    let first = c.put_number.ensures ∙ ap (λ p. p ++ around args.before.now args.n args.between.now) c.requires.0 in
+    c.put_number-2.ensures ∙ ap (λ p. p ++ around _ args.m args.behind.now) first ∙ regrouped args.before.now args.between.now args.behind.now args.n args.m

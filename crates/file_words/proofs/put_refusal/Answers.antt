@@ -1,30 +1,17 @@
 -- `file_words::put_refusal` meets its contract: each number has its words. Assumes nothing.
-use native.Mathlib.Omega.{arith}
-use borrow.Author.Tests.{eq-eqb, ne_eqb}
-use Rattle.file_words.specs.Words.{refusal_words}
+use Rattle.file_words.proofs.Refused.{kind-words, ends-words, count-words, other-words}
 use Rattle.file_words.proofs.put_refusal.Goals as goal
 
-pub returns-then-number-eq7 : goal.returns-then-number-eq7
-unfolding refusal_words
-returns-then-number-eq7 c = rw (eq-eqb c.args.number 7 c.if-number-eq7.true, ← c.byte_at.ensures.0) c.put_numbers.ensures
+pub returns-in-FilterKind : goal.returns-in-FilterKind
+returns-in-FilterKind c = kind-words c.args.file.now _ _ _ _ c.in-FilterKind.is c.byte_at.ensures.0 c.put_numbers.ensures
 
-pub returns-then-number-eq11 : goal.returns-then-number-eq11
-unfolding refusal_words
-returns-then-number-eq11 c =
-    let number = c.args.number in
-    rw (ne_eqb number 7 c.if-number-eq7.false, eq-eqb number 11 c.if-number-eq11.true) c.put_numbers-then-number-eq11.ensures
+pub returns-in-FileEnds : goal.returns-in-FileEnds
+returns-in-FileEnds c = ends-words c.args.file.now _ _ _ c.in-FileEnds.is c.put_numbers-in-FileEnds.ensures
 
-pub returns-then-number-eq12 : goal.returns-then-number-eq12
-unfolding refusal_words
-returns-then-number-eq12 c =
-    let number = c.args.number in
-    rw (ne_eqb number 7 c.if-number-eq7.false, ne_eqb number 11 c.if-number-eq11.false, eq-eqb number 12 c.if-number-eq12.true)
-    c.put_count.ensures
+pub returns-in-CountAboveLimit : goal.returns-in-CountAboveLimit
+returns-in-CountAboveLimit c = count-words c.args.file.now _ _ _ c.in-CountAboveLimit.is c.put_count.ensures
 
-pub returns : goal.returns
-unfolding refusal_words
-returns c =
-    let number = c.args.number in
-    let put = c.put_number.ensures in
-    rw (ne_eqb number 7 c.if-number-eq7.false, ne_eqb number 11 c.if-number-eq11.false, ne_eqb number 12 c.if-number-eq12.false)
-    (put.0, put.1, omega (arith, put.2))
+pub returns-in_default : goal.returns-in_default
+returns-in_default c =
+    let over = c.in_default in
+    other-words c.args.file.now c.args.refusal _ _ _ over.not-FilterKind over.not-FileEnds over.not-CountAboveLimit c.carried.ensures c.requires c.put_number.ensures
