@@ -62,11 +62,11 @@ fn exchanged(bits: u64, kept: u64, moved: u64, by: u32) -> u64
     (bits & kept) | (((bits & moved) << by) | ((bits >> by) & moved))
 }
 
-// The code below 2^32, and above it a bit for each `x`. The marks of four words make a square of eight times eight bits, a row for the
-// places that stand alike in their words; turned about its diagonal, it has the code's four bytes and those of the `x`.
-fn read(row: &[u8; 32]) -> u64
+// Code and mask. The marks of four words make a square of eight times eight bits, a row for the places that stand alike in their words; turned
+// about its diagonal, it has the code's four bytes and, above them, those of a bit for each `x`.
+fn read(row: &[u8; 32]) -> (u32, u32)
     requires { all_characters row.now ≡ true }
-    ensures { (result % 2 ^ 32 ≡ code_of (run 0 32) row.now) × (2 ^ 32 - 1 - result / 2 ^ 32 ≡ mask_of (run 0 32) row.now) }
+    ensures { (result.0 ≡ code_of (run 0 32) row.now) × (result.1 ≡ mask_of (run 0 32) row.now) }
 {
     let first = marks(eight(row, 0)) * 8;
     let second = marks(eight(row, 8)) * 4;
@@ -74,7 +74,10 @@ fn read(row: &[u8; 32]) -> u64
     let square = first | (second | (third | marks(eight(row, 24))));
     let pairs = exchanged(square, 0xAA55_AA55_AA55_AA55, 0x00AA_00AA_00AA_00AA, 7);
     let fours = exchanged(pairs, 0xCCCC_3333_CCCC_3333, 0x0000_CCCC_0000_CCCC, 14);
-    exchanged(fours, 0xF0F0_F0F0_0F0F_0F0F, 0x0000_0000_F0F0_F0F0, 28)
+    let turned = exchanged(fours, 0xF0F0_F0F0_0F0F_0F0F, 0x0000_0000_F0F0_F0F0, 28);
+    let code = (turned % 0x1_0000_0000) as u32;
+    let free = (turned / 0x1_0000_0000) as u32;
+    (code, 0xFFFF_FFFF - free)
 }
 
 // Refused by the first byte that is no pattern character, by its field and its place there; the row tells whether there is one.
@@ -103,11 +106,8 @@ fn compile(row: &[u8; 32], patterns: &[&[u8]]) -> Result<[u8; 8], Refusal>
         (registers_of (code_of (run 0 32) row.now) (mask_of (run 0 32) row.now)) }
 {
     judge_characters(row, patterns)?;
-    let both = read(row);
-    Ok(filter_registers::made(
-        (both % 0x1_0000_0000) as u32,
-        0xFFFF_FFFF - (both / 0x1_0000_0000) as u32,
-    ))
+    let (code, mask) = read(row);
+    Ok(filter_registers::made(code, mask))
 }
 
 pub fn single_standard(

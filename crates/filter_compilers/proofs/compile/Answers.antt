@@ -7,8 +7,8 @@ use Rattle.filter_compilers.proofs.Joined.{said-good}
 use Rattle.filter_compilers.proofs.Answers.{answered-refused, answered-made}
 use Rattle.filter_compilers.proofs.compile.Goals as goal
 
-pub read-both-requires : goal.read-both-requires
-read-both-requires c = c.requires.2 ∙ said-good 0 (map (λ p. p.now) c.args.patterns.now) (sym c.in_ok-judge_characters.ensures)
+pub read-code-requires : goal.read-code-requires
+read-code-requires c = c.requires.2 ∙ said-good 0 (map (λ p. p.now) c.args.patterns.now) (sym c.in_ok-judge_characters.ensures)
 
 pub returns-in_err-judge_characters : goal.returns-in_err-judge_characters
 returns-in_err-judge_characters c =
@@ -18,4 +18,4 @@ returns-in_err-judge_characters c =
 pub returns : goal.returns
 returns c =
     answered-made _ _ _ (sym c.in_ok-judge_characters.ensures)
-    (c.made.ensures ∙ ap₂ registers_of c.read-both.ensures.0 c.read-both.ensures.1)
+    (c.made.ensures ∙ ap₂ registers_of c.read-code.ensures.0 c.read-code.ensures.1)

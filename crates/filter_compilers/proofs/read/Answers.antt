@@ -7,4 +7,4 @@ returns c =
     row_read c.args.row.now _ _ _ _ _ _ _ _ _ _ _ c.told-row c.requires
     c.eight.ensures c.eight-2.ensures c.eight-3.ensures c.eight-4.ensures
     c.marks-first.ensures.0 c.marks-second.ensures.0 c.marks-third.ensures.0 c.marks.ensures.0
-    c.exchanged-pairs.ensures c.exchanged-fours.ensures c.exchanged.ensures
+    c.exchanged-pairs.ensures c.exchanged-fours.ensures c.exchanged-turned.ensures
