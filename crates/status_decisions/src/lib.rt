@@ -71,28 +71,38 @@ pub fn transmit(status: u32, error_passive: bool) -> Decision<TransmitError>
 pub fn poll(status: u32, error_passive: bool, in_flight: bool) -> Polling
     ensures { polling_said result ≡ poll_of status error_passive in_flight }
 {
-    let (answer, command, in_flight) = if is_set(status, BUS_OFF) {
-        (Some(Err(PollError::BusOff)), Command::Nothing, in_flight)
-    } else if is_set(status, TRANSMIT_FREE) {
-        if in_flight {
-            (Some(Ok(())), Command::Nothing, in_flight)
-        } else {
-            (None, Command::WriteFrame, true)
-        }
-    } else if error_passive {
-        (
-            Some(Err(PollError::TransmissionAborted)),
-            Command::Abort,
-            in_flight,
-        )
-    } else {
-        (None, Command::Nothing, in_flight)
-    };
-    Polling {
-        answer,
-        command,
+    let waiting = Polling {
+        answer: None,
+        command: Command::Nothing,
         in_flight,
+    };
+    if is_set(status, BUS_OFF) {
+        return Polling {
+            answer: Some(Err(PollError::BusOff)),
+            ..waiting
+        };
     }
+    if is_set(status, TRANSMIT_FREE) {
+        if in_flight {
+            return Polling {
+                answer: Some(Ok(())),
+                ..waiting
+            };
+        }
+        return Polling {
+            command: Command::WriteFrame,
+            in_flight: true,
+            ..waiting
+        };
+    }
+    if error_passive {
+        return Polling {
+            answer: Some(Err(PollError::TransmissionAborted)),
+            command: Command::Abort,
+            ..waiting
+        };
+    }
+    waiting
 }
 
 pub fn receive(status: u32) -> Decision<ReceiveError>
