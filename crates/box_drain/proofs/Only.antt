@@ -1,28 +1,29 @@
--- An answer to a start, or to a step, is told by what is said of it, so two that meet a contract are equal. Assumes nothing.
+-- An answer of a drain is told by what is said of it, so two that meet a contract are equal. Assumes nothing.
 use Prim.{Unit}
 use mathlib.Core.Path.{◌≡◌, refl, ap}
+use Rattle.std.specs.Prelude.{Result, Ok, Err}
 use Rattle.laws.specs.Said.{Said, refuses, gives}
 use Rattle.laws.proofs.Only.{only}
+use Rattle.refusals.specs.declared.Refusal.{Refusal}
 use Rattle.refusals.proofs.Only.{refusal_at, refusal-at}
 use Rattle.box_state.specs.declared.ReceiveBox.{ReceiveBox}
-use Rattle.box_drain.specs.declared.Starting.{Starting}
-use Rattle.box_drain.specs.declared.Starting.TheVariants as starting
 use Rattle.box_drain.specs.declared.Started.{Started}
-use Rattle.box_drain.specs.Start.{starting_said, started_said}
-use Rattle.box_drain.specs.declared.Stepping.{Stepping}
-use Rattle.box_drain.specs.declared.Stepping.TheVariants as stepping
+use Rattle.box_drain.specs.declared.Command.{Command}
+use Rattle.box_drain.specs.declared.Outcome.{Outcome}
+use Rattle.box_drain.specs.declared.Outcome.TheVariants as outcome
 use Rattle.box_drain.specs.declared.StepAnswer.{StepAnswer}
 use Rattle.box_drain.specs.declared.Stepped.{Stepped}
-use Rattle.box_drain.specs.Answers.{Told, done, lost, finished, stepping_said, StepSaid, step_said, stepped_said}
+use Rattle.box_drain.specs.Answers.{done, lost, finished, StepSaid, outcome_said, lost_in, step_said, stepped_said}
+use Rattle.box_drain.specs.Start.{starting_said, started_said}
 
-starting_back : Said (Unit {0}) → Starting
-starting_back (gives u) = starting.Started
-starting_back (refuses k n) = starting.Refused (refusal_at k n)
+starting_back : Said (Unit {0}) → Result (Unit {0}) Refusal
+starting_back (gives t) = Ok t
+starting_back (refuses k n) = Err (refusal_at k n)
 
-starting-back : (a : Starting) → starting_back (starting_said a) ≡ a
+starting-back : (a : Result (Unit {0}) Refusal) → starting_back (starting_said a) ≡ a
 unfolding starting_back
-starting-back starting.Started = refl
-starting-back (starting.Refused f) = ap starting.Refused (refusal-at f)
+starting-back (Ok t) = refl
+starting-back (Err f) = ap Err (refusal-at f)
 
 started_back : Said (Unit {0}) × ReceiveBox → Started
 started_back p = record { answer = starting_back p.0; state = p.1 }
@@ -34,25 +35,22 @@ started-back r = rw (starting-back r.answer)
 pub only-started : (r s : Started) → started_said r ≡ started_said s → r ≡ s
 only-started = only started_said started_back started-back
 
-stepping_back : Said Told → Stepping
-stepping_back (gives done) = stepping.Done
-stepping_back (gives lost) = stepping.Lost
-stepping_back (gives (finished f)) = stepping.Finished f
-stepping_back (refuses k n) = stepping.Refused (refusal_at k n)
+step_read_back : StepSaid → Result StepAnswer Refusal
+step_read_back (gives done, c, x) = Ok (record { command = c; outcome = outcome.Done })
+step_read_back (gives lost, c, x) = Ok (record { command = c; outcome = outcome.Lost x })
+step_read_back (gives (finished f), c, x) = Ok (record { command = c; outcome = outcome.Finished f })
+step_read_back (refuses k n, c, x) = Err (refusal_at k n)
 
-stepping-back : (a : Stepping) → stepping_back (stepping_said a) ≡ a
-unfolding stepping_back
-stepping-back stepping.Done = refl
-stepping-back stepping.Lost = refl
-stepping-back (stepping.Finished f) = refl
-stepping-back (stepping.Refused f) = ap stepping.Refused (refusal-at f)
-
-step_read_back : StepSaid → StepAnswer
-step_read_back p = record { stepping = stepping_back p.0; command = p.1; lost = p.2 }
-
-step_back : (a : StepAnswer) → step_read_back (step_said a) ≡ a
+outcome_back : (o : Outcome) (c : Command) → step_read_back (gives (outcome_said o), c, lost_in o) ≡ Ok (record { command = c; outcome = o })
 unfolding step_read_back
-step_back a = rw (stepping-back a.stepping)
+outcome_back outcome.Done c = refl
+outcome_back (outcome.Lost x) c = refl
+outcome_back (outcome.Finished f) c = refl
+
+step_back : (a : Result StepAnswer Refusal) → step_read_back (step_said a) ≡ a
+unfolding step_read_back
+step_back (Ok a) = outcome_back a.outcome a.command
+step_back (Err f) = ap Err (refusal-at f)
 
 stepped_back : StepSaid × ReceiveBox → Stepped
 stepped_back p = record { answer = step_read_back p.0; state = p.1 }

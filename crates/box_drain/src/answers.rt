@@ -1,36 +1,35 @@
-// What a step of a drain answers: told with its command and its lost record, beside the box after it.
+// What a step answers, beside the box after it.
 ghost use Rattle.std.specs.Prelude.{◌≡◌};
-ghost use Rattle.box_drain.specs.Answers.{stepping_said, stepped_said, quietly, refused_step};
+ghost use Rattle.laws.specs.Said.{gives};
+ghost use Rattle.box_drain.specs.Answers.{outcome_said, lost_in, stepped_said, quietly, refused_step};
 
-use crate::{Command, StepAnswer, Stepped, Stepping};
-use box_records::Record;
+use crate::{Command, Outcome, StepAnswer, Stepped};
 use box_state::ReceiveBox;
 use refusals::Refusal;
 
-pub(crate) fn told(stepping: Stepping, command: Command, lost: Record, state: ReceiveBox) -> Stepped
-    ensures { stepped_said result ≡ ((stepping_said stepping, command, lost), state) }
-{
-    let answer = StepAnswer {
-        stepping: stepping,
-        command: command,
-        lost: lost,
-    };
-    Stepped {
-        answer: answer,
-        state: state,
+impl Stepped {
+    pub(crate) fn told(command: Command, outcome: Outcome, state: ReceiveBox) -> Stepped
+        ensures { stepped_said result ≡ ((gives (outcome_said outcome), command, lost_in outcome), state) }
+    {
+        Stepped {
+            answer: Ok(StepAnswer { command, outcome }),
+            state,
+        }
     }
-}
 
-// A step that loses nothing and does not end the drain.
-pub(crate) fn quiet(command: Command, state: ReceiveBox) -> Stepped
-    ensures { stepped_said result ≡ quietly command state }
-{
-    told(Stepping::Done, command, Record::blank(), state)
-}
+    // A step that loses nothing and does not end the drain.
+    pub(crate) fn quiet(command: Command, state: ReceiveBox) -> Stepped
+        ensures { stepped_said result ≡ quietly command state }
+    {
+        Stepped::told(command, Outcome::Done, state)
+    }
 
-pub(crate) fn refused(refusal: Refusal, state: ReceiveBox) -> Stepped
-    ensures { stepped_said result ≡ refused_step refusal state }
-{
-    let none = Record::blank();
-    told(Stepping::Refused(refusal), Command::Nothing, none, state)
+    pub(crate) fn refused(refusal: Refusal, state: ReceiveBox) -> Stepped
+        ensures { stepped_said result ≡ refused_step refusal state }
+    {
+        Stepped {
+            answer: Err(refusal),
+            state,
+        }
+    }
 }

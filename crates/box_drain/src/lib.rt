@@ -2,11 +2,11 @@
 #![tactic(auto)]
 
 mod answers;
+mod byte;
 mod offers;
 mod steps;
 
 ghost use Rattle.std.specs.Prelude.{◌≡◌};
-ghost use Rattle.box_state.specs.Rules.{is_idle};
 ghost use Rattle.box_drain.specs.Answers.{stepped_said};
 ghost use Rattle.box_drain.specs.Step.{first_phase, step_of};
 ghost use Rattle.box_drain.specs.Start.{started_said, start_of};
@@ -16,60 +16,37 @@ use box_state::{Phase, ReceiveBox};
 use box_words::{Finished, Words};
 use refusals::Refusal;
 
-#[derive(Clone, Copy)]
+#[derive(Clone, Copy, Debug, PartialEq, Eq)]
 pub enum Command {
     Nothing,
     Abort,
     Release,
 }
 
-#[derive(Clone, Copy)]
-pub enum Stepping {
+// What a step came to: no more, a record that was lost, or the drain's end.
+#[derive(Clone, Copy, Debug, PartialEq, Eq)]
+pub enum Outcome {
     Done,
-    Lost,
+    Lost(Record),
     Finished(Finished),
-    Refused(Refusal),
 }
 
-// The lost record stands beside the enum: blank where none is lost.
-#[derive(Clone, Copy)]
+#[derive(Clone, Copy, Debug, PartialEq, Eq)]
 pub struct StepAnswer {
-    pub stepping: Stepping,
     pub command: Command,
-    pub lost: Record,
+    pub outcome: Outcome,
 }
 
-#[derive(Clone, Copy)]
+#[derive(Clone, Copy, Debug, PartialEq, Eq)]
 pub struct Stepped {
-    pub answer: StepAnswer,
+    pub answer: Result<StepAnswer, Refusal>,
     pub state: ReceiveBox,
 }
 
-#[derive(Clone, Copy)]
-pub enum Starting {
-    Started,
-    Refused(Refusal),
-}
-
-#[derive(Clone, Copy)]
+#[derive(Clone, Copy, Debug, PartialEq, Eq)]
 pub struct Started {
-    pub answer: Starting,
+    pub answer: Result<(), Refusal>,
     pub state: ReceiveBox,
-}
-
-fn is_idle(phase: Phase) -> bool
-    ensures { result ≡ is_idle phase }
-{
-    match phase {
-        Phase::Idle => true,
-        Phase::Notice => false,
-        Phase::Look => false,
-        Phase::Miss => false,
-        Phase::Copy => false,
-        Phase::Release => false,
-        Phase::Offer => false,
-        Phase::Finish => false,
-    }
 }
 
 #[tactic(auto, unfolding(crate::specs::Step::first_phase))]
@@ -87,28 +64,25 @@ fn first_phase(words: Words) -> Phase
 pub fn start(state: ReceiveBox, words: Words) -> Started
     ensures { started_said result ≡ start_of state words }
 {
-    if state.valid() {
-        let phase = state.phase;
-        if is_idle(phase) {
-            let first = first_phase(words);
-            let begun = ReceiveBox {
-                phase: first,
-                words: words,
-                ..state
-            };
-            return Started {
-                answer: Starting::Started,
-                state: begun,
-            };
-        }
+    if !state.valid() {
         return Started {
-            answer: Starting::Refused(Refusal::DrainRuns),
-            state: state,
+            answer: Err(Refusal::BrokenState),
+            state,
+        };
+    }
+    if state.phase != Phase::Idle {
+        return Started {
+            answer: Err(Refusal::DrainRuns),
+            state,
         };
     }
     Started {
-        answer: Starting::Refused(Refusal::BrokenState),
-        state: state,
+        answer: Ok(()),
+        state: ReceiveBox {
+            phase: first_phase(words),
+            words,
+            ..state
+        },
     }
 }
 
@@ -117,18 +91,17 @@ pub fn start(state: ReceiveBox, words: Words) -> Started
 pub fn step(state: ReceiveBox) -> Stepped
     ensures { stepped_said result ≡ step_of state }
 {
-    if state.valid() {
-        let phase = state.phase;
-        return match phase {
-            Phase::Idle => answers::refused(Refusal::NoDrainRuns, state),
-            Phase::Notice => offers::notice_step(state),
-            Phase::Look => steps::look_step(state),
-            Phase::Miss => steps::miss_step(state),
-            Phase::Copy => steps::copy_step(state),
-            Phase::Release => steps::release_step(state),
-            Phase::Offer => offers::offer_step(state),
-            Phase::Finish => steps::finish_step(state),
-        };
+    if !state.valid() {
+        return Stepped::refused(Refusal::BrokenState, state);
     }
-    answers::refused(Refusal::BrokenState, state)
+    match state.phase {
+        Phase::Idle => Stepped::refused(Refusal::NoDrainRuns, state),
+        Phase::Notice => offers::notice_step(state),
+        Phase::Look => steps::look_step(state),
+        Phase::Miss => steps::miss_step(state),
+        Phase::Copy => steps::copy_step(state),
+        Phase::Release => steps::release_step(state),
+        Phase::Offer => offers::offer_step(state),
+        Phase::Finish => steps::finish_step(state),
+    }
 }

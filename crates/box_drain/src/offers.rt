@@ -5,7 +5,7 @@ ghost use Rattle.box_state.specs.Calls.{with_of};
 ghost use Rattle.box_drain.specs.Answers.{stepped_said};
 ghost use Rattle.box_drain.specs.Step.{offering, after_notice, notice_step, offer_step};
 
-use crate::{Command, Stepped, Stepping, answers};
+use crate::{Command, Outcome, Stepped};
 use box_queue::{Offering, Queue};
 use box_records::{Record, RecordError, RecordKind};
 use box_state::{Phase, ReceiveBox};
@@ -24,8 +24,8 @@ fn with_queue(state: ReceiveBox, queue: Queue, phase: Phase) -> ReceiveBox
     ensures { result ≡ with_of state state.fifo queue phase state.held }
 {
     ReceiveBox {
-        queue: queue,
-        phase: phase,
+        queue,
+        phase,
         ..state
     }
 }
@@ -41,19 +41,15 @@ fn offer_record(
 ) -> Stepped
     ensures { stepped_said result ≡ offering state offered command stored lost }
 {
-    let queue = state.queue;
-    let out = queue.offer(offered);
-    let after = out.state;
-    let answer = out.answer;
-    match answer {
-        Offering::Stored => answers::quiet(command, with_queue(state, after, stored)),
-        Offering::Lost => answers::told(
-            Stepping::Lost,
+    let after = state.queue.offer(offered);
+    match after.answer {
+        Ok(Offering::Stored) => Stepped::quiet(command, with_queue(state, after.state, stored)),
+        Ok(Offering::Lost) => Stepped::told(
             command,
-            offered,
-            with_queue(state, after, lost),
+            Outcome::Lost(offered),
+            with_queue(state, after.state, lost),
         ),
-        Offering::Refused(refusal) => answers::refused(refusal, state),
+        Err(refusal) => Stepped::refused(refusal, state),
     }
 }
 
@@ -71,10 +67,8 @@ pub(crate) fn after_notice(words: Words) -> Phase
 pub(crate) fn notice_step(state: ReceiveBox) -> Stepped
     ensures { stepped_said result ≡ notice_step state }
 {
-    let words = state.words;
-    let next = after_notice(words);
-    let notice = bus_off();
-    offer_record(state, notice, Command::Abort, next, next)
+    let next = after_notice(state.words);
+    offer_record(state, bus_off(), Command::Abort, next, next)
 }
 
 #[tactic(auto, unfolding(crate::specs::Step::offer_step))]

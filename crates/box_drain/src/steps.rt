@@ -3,28 +3,24 @@ ghost use Rattle.std.specs.Prelude.{◌≡◌};
 ghost use Rattle.box_drain.specs.Answers.{stepped_said};
 ghost use Rattle.box_drain.specs.Step.{at_phase, holding, look_step, miss_step, copy_step, release_step, finish_step};
 
-use crate::{Command, Stepped, Stepping, answers};
+use crate::{Command, Outcome, Stepped};
 use box_records::Record;
 use box_state::{Phase, ReceiveBox};
 
 fn at_phase(state: ReceiveBox, phase: Phase) -> ReceiveBox
     ensures { result ≡ at_phase state phase }
 {
-    ReceiveBox {
-        phase: phase,
-        ..state
-    }
+    ReceiveBox { phase, ..state }
 }
 
 #[tactic(auto, unfolding(crate::specs::Step::look_step))]
 pub(crate) fn look_step(state: ReceiveBox) -> Stepped
     ensures { stepped_said result ≡ look_step state }
 {
-    let fifo = state.fifo;
-    if fifo.count == 0 {
-        return answers::quiet(Command::Nothing, at_phase(state, Phase::Finish));
+    if state.fifo.count == 0 {
+        return Stepped::quiet(Command::Nothing, at_phase(state, Phase::Finish));
     }
-    answers::quiet(Command::Nothing, at_phase(state, Phase::Miss))
+    Stepped::quiet(Command::Nothing, at_phase(state, Phase::Miss))
 }
 
 // A record is held, and the front is released next.
@@ -33,7 +29,7 @@ fn holding(state: ReceiveBox, held: Record) -> ReceiveBox
 {
     ReceiveBox {
         phase: Phase::Release,
-        held: held,
+        held,
         ..state
     }
 }
@@ -42,47 +38,38 @@ fn holding(state: ReceiveBox, held: Record) -> ReceiveBox
 pub(crate) fn miss_step(state: ReceiveBox) -> Stepped
     ensures { stepped_said result ≡ miss_step state }
 {
-    let fifo = state.fifo;
-    let front = fifo.front();
+    let front = state.fifo.front();
     if front.mark {
-        return answers::quiet(
-            Command::Nothing,
-            holding(state, box_state::record_of(front)),
-        );
+        let held = box_state::record_of(front);
+        return Stepped::quiet(Command::Nothing, holding(state, held));
     }
-    answers::quiet(Command::Nothing, at_phase(state, Phase::Copy))
+    Stepped::quiet(Command::Nothing, at_phase(state, Phase::Copy))
 }
 
 #[tactic(auto, unfolding(crate::specs::Step::copy_step))]
 pub(crate) fn copy_step(state: ReceiveBox) -> Stepped
     ensures { stepped_said result ≡ copy_step state }
 {
-    let fifo = state.fifo;
-    let copy = box_state::record_of(fifo.front());
-    answers::quiet(Command::Nothing, holding(state, copy))
+    let copy = box_state::record_of(state.fifo.front());
+    Stepped::quiet(Command::Nothing, holding(state, copy))
 }
 
 #[tactic(auto, unfolding(crate::specs::Step::release_step))]
 pub(crate) fn release_step(state: ReceiveBox) -> Stepped
     ensures { stepped_said result ≡ release_step state }
 {
-    let fifo = state.fifo;
-    let rest = fifo.release();
     let next = ReceiveBox {
-        fifo: rest,
+        fifo: state.fifo.release(),
         phase: Phase::Offer,
         ..state
     };
-    answers::quiet(Command::Release, next)
+    Stepped::quiet(Command::Release, next)
 }
 
 #[tactic(auto, unfolding(crate::specs::Step::finish_step))]
 pub(crate) fn finish_step(state: ReceiveBox) -> Stepped
     ensures { stepped_said result ≡ finish_step state }
 {
-    let words = state.words;
-    let finished = words.finish();
-    let none = Record::blank();
-    let idle = at_phase(state, Phase::Idle);
-    answers::told(Stepping::Finished(finished), Command::Nothing, none, idle)
+    let finished = Outcome::Finished(state.words.finish());
+    Stepped::told(Command::Nothing, finished, at_phase(state, Phase::Idle))
 }

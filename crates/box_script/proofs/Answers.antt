@@ -1,13 +1,12 @@
 -- The answers' lengths, which the calls alone decide. Assumes nothing.
 use Prim.{Unit}
 use Prim.Native.Nat.{ℕ, ◌+◌, ◌%◌}
-use mathlib.Core.Path.{◌≡◌, refl, ap₂, ◌∙◌}
+use mathlib.Core.Path.{◌≡◌, refl, sym, ap, ap₂, ◌∙◌}
 use mathlib.Core.Bool.{Bool, true, false, cond}
 use mathlib.Core.List.{List, [], ◌∷◌, ◌++◌}
 use lib.Dec.{eqb}
 use lib.ListN.{length, get_or, length-append}
 use native.Mathlib.Omega.{arith}
-use borrow.Author.Tests.{ne_eqb}
 use Rattle.laws.specs.Said.{Said, refuses, gives}
 use Rattle.laws.specs.Tabulate.{part}
 use Rattle.box_records.specs.declared.Record.{Record}
@@ -26,11 +25,10 @@ use Rattle.box_drain.specs.Step.{step_of}
 use Rattle.box_drain.specs.Start.{start_of}
 use Rattle.box_drain.specs.Run.{arrives, takes, starts, steps}
 use Rattle.box_script.specs.State.{words_at, words_bytes, entry_bytes, record_bytes, entries_bytes, fifo_bytes, places_bytes, queue_bytes, phase_byte, state_bytes}
-use Rattle.box_script.specs.Format.{Asked, calls, loads, tells, load_at, call_at}
+use Rattle.box_script.specs.declared.call.Call.{Call}
+use Rattle.box_script.specs.Format.{Asked, calls, loads, tells, first_byte, StandsAt, load_at, call_at}
 use Rattle.box_script.specs.Answers.{arrival_bytes, take_bytes, start_bytes, step_bytes, call_answer, answer_of, next_of, answers_of, answer_length}
 use Rattle.box_script.proofs.Filled.{joined-long}
-
--- a refusal's number is a byte
 
 pub arrival-bytes-long : (o : Said Outcome) → length (arrival_bytes o) ≡ 2
 arrival-bytes-long (gives o) = refl
@@ -136,26 +134,5 @@ size-at s at =
     by_first (eqb (get_or s at 0) 1) (eqb (get_or s at 0) 2) (eqb (get_or s at 0) 3) (eqb (get_or s at 0) 4) (eqb (get_or s at 0) 5)
     (part s (at + 1) 13) (words_at s (at + 1)) (load_at s (at + 1))
 
-pub arrival-size : (first : ℕ) → first ≡ 1 → answer_length first ≡ 2
-unfolding answer_length
-arrival-size first e = rw e
-
-pub take-size : (first : ℕ) → first ≡ 2 → answer_length first ≡ 16
-unfolding answer_length
-take-size first e = rw e
-
-pub start-size : (first : ℕ) → first ≡ 3 → answer_length first ≡ 1
-unfolding answer_length
-start-size first e = rw e
-
-pub step-size : (first : ℕ) → first ≡ 4 → answer_length first ≡ 23
-unfolding answer_length
-step-size first e = rw e
-
-pub load-size : (first : ℕ) → first ≡ 5 → answer_length first ≡ 1
-unfolding answer_length
-load-size first e = rw e
-
-pub state-size : (first : ℕ) → (first ≡ 1 → ⊥) → (first ≡ 2 → ⊥) → (first ≡ 3 → ⊥) → (first ≡ 4 → ⊥) → (first ≡ 5 → ⊥) → answer_length first ≡ 1376
-unfolding answer_length
-state-size first a b c d e = rw (ne_eqb first 1 a, ne_eqb first 2 b, ne_eqb first 3 c, ne_eqb first 4 d, ne_eqb first 5 e)
+pub size-stands : (s : List ℕ) (c : Call) (at : ℕ) → StandsAt c s at → size_of (call_at s at) ≡ answer_length (first_byte c)
+size-stands s c at stands = size-at s at ∙ ap answer_length (sym stands.first)

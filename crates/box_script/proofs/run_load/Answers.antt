@@ -1,20 +1,13 @@
--- `run_load`: the bytes are judged, then read. Assumes nothing.
-use mathlib.Core.Path.{sym, ◌∙◌}
-use native.Mathlib.Omega.{arith}
-use Rattle.laws.proofs.Laid.{set-laid}
-use Rattle.box_script.specs.Format.{load_at}
+-- `run_load`: the state that was read, or the refusal. Assumes nothing.
+use mathlib.Core.Path.{refl, ◌∙◌}
 use Rattle.box_script.specs.Answers.{answer_of}
+use Rattle.box_script.proofs.Read.{one-stored}
 use Rattle.box_script.proofs.run_load.Goals as goal
 
-pub returns-then-encodes_state : goal.returns-then-encodes_state
-unfolding load_at answer_of
-returns-then-encodes_state c =
-    let good = sym c.encodes_state.ensures ∙ c.if-encodes_state.true in
-    (rw good c.state_at.ensures, rw good (set-laid c.args.to 0 c.args.out.now (omega (arith, c.requires.1))))
+pub returns-in-Ok : goal.returns-in-Ok
+unfolding answer_of
+returns-in-Ok c = rw (← c.in-Ok.ensures) (refl, one-stored 0 c.args.answer.now c.requires.1)
 
-pub returns : goal.returns
-unfolding load_at answer_of
-returns c =
-    let bad = sym c.encodes_state.ensures ∙ c.if-encodes_state.false in
-    let ten = c.number_byte.ensures in
-    (rw bad, rw (bad, ten) (set-laid c.args.to 10 c.args.out.now (omega (arith, c.requires.1))))
+pub returns-in-Err : goal.returns-in-Err
+unfolding answer_of
+returns-in-Err c = rw (← c.in-Err.ensures) (refl, one-stored c.number_byte.result c.args.answer.now c.requires.1 ∙ rw c.number_byte.ensures)

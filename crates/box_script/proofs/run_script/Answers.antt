@@ -15,16 +15,15 @@ pub returns-then-out-needed : goal.returns-then-out-needed
 unfolding run_of written
 returns-then-out-needed c =
     let needed = length (answers_to c.args.script.now) in
-    let short = lt-leb needed (length c.args.out.now) (omega (arith, c.scan-found.ensures.1, capped-below needed)) in
-    record { result_value = rw short (ap (λ (n : ℕ). refuses 6 (n ∷ [])) c.scan-found.ensures.1); out_after = rw short }
+    let short = lt-leb needed (length c.args.out.now) (omega (arith, c.scan-calls.ensures.1, capped-below needed)) in
+    record { result_value = rw short (ap (λ (n : ℕ). refuses 6 (n ∷ [])) c.scan-calls.ensures.1); out_after = rw short }
 
 pub run_calls-requires : goal.run_calls-requires
-run_calls-requires c =
-    (c.scan-found.ensures.0, capped-room (length (answers_to c.args.script.now)) (length c.args.out.now) (omega arith) (omega (arith, c.scan-found.ensures.1)))
+run_calls-requires c = capped-room (length (answers_to c.args.script.now)) (length c.args.out.now) (omega arith) (omega (arith, c.scan-calls.ensures.1))
 
 pub returns : goal.returns
 unfolding run_of written
 returns c =
     let needed = length (answers_to c.args.script.now) in
-    let room = le-leb needed (length c.args.out.now) (capped-room needed (length c.args.out.now) (omega arith) (omega (arith, c.scan-found.ensures.1))) in
-    record { result_value = rw room (ap (λ (n : ℕ). gives n) c.scan-found.ensures.0); out_after = c.run_calls.ensures ∙ rw room }
+    let room = le-leb needed (length c.args.out.now) (capped-room needed (length c.args.out.now) (omega arith) (omega (arith, c.scan-calls.ensures.1))) in
+    record { result_value = rw room (ap (λ (n : ℕ). gives n) c.scan-calls.ensures.0); out_after = c.run_calls.ensures ∙ rw room }

@@ -1,42 +1,37 @@
 -- `scan`: one turn counts one call more, and where no call is whole none is left. Assumes nothing.
-use mathlib.Core.Path.{◌≡◌}
 use native.Mathlib.Omega.{arith}
-use Rattle.box_script.specs.Format.{length_at}
-use Rattle.box_script.proofs.Capped.{carried-most}
 use Rattle.box_script.proofs.Counted.{count-start, needed-start, count_turn, needed-turn, count-end, needed-end}
 use Rattle.box_script.proofs.scan.Goals as goal
 
-pub loop-long-init : goal.loop-long-init
-loop-long-init c = record {
+pub loop-at-init : goal.loop-at-init
+loop-at-init c = record {
   few = omega arith;
-  here = c.length_at-long.ensures.0;
-  inside = c.length_at-long.ensures.1;
+  inside = omega arith;
   carried = omega arith;
   counted = count-start c.args.script.now;
   sized = needed-start c.args.script.now;
 }
 
-pub loop-long-preserved : goal.loop-long-preserved
-loop-long-preserved c =
+pub loop-at-preserved : goal.loop-at-preserved
+loop-at-preserved c =
     let s = c.args.script.now in
-    let loop = c.loop-long in
+    let loop = c.loop-at in
     let i = loop.invariant in
-    let some = c.loop-long-test.true in
+    let stands = c.in-Some.ensures.some in
+    let long = c.length-at.ensures.0 in
+    let some = c.length-at.ensures.1 in
     record {
-      few = omega arith;
-      here = c.length_at-long-in-loop-long.ensures.0;
-      inside = c.length_at-long-in-loop-long.ensures.1;
-      carried = carried-most _ _ c.add_capped-needed.ensures;
-      counted = count_turn s loop.calls loop.at loop.long i.here some i.few i.inside _ i.counted;
-      sized =
-          needed-turn s loop.calls loop.at loop.long i.here some i.few i.inside loop.needed c.answer_length.result c.add_capped-needed.result _
-          c.answer_length.ensures.0 c.add_capped-needed.ensures i.sized;
+      few = omega (arith, i.few, some);
+      inside = omega (arith, stands.whole, long);
+      carried = omega (arith, c.saturating_add-needed.type_inv);
+      counted = rw long (count_turn s c.in-Some.call loop.at stands loop.calls _ i.counted);
+      sized = rw long (needed-turn s c.in-Some.call loop.at stands loop.needed c.answer_length.result c.saturating_add-needed.result _ c.answer_length.ensures.0 c.saturating_add-needed.ensures i.sized);
     }
 
 pub returns : goal.returns
 returns c =
     let s = c.args.script.now in
-    let loop = c.loop-long in
+    let loop = c.loop-at in
     let i = loop.invariant in
-    let none : length_at s loop.at ≡ 0 = omega (arith, i.here, c.loop-long-test.false) in
-    (count-end s _ loop.at none loop.calls _ i.counted, needed-end s _ loop.at none loop.needed i.carried i.sized)
+    let none = c.at.ensures.none c.in_default.is in
+    (count-end s loop.at none loop.calls _ i.counted, needed-end s loop.at none loop.needed i.carried i.sized)

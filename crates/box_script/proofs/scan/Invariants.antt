@@ -2,20 +2,20 @@
 use Prim.Native.Nat.{◌+◌, ◌-◌, ◌≤◌}
 use mathlib.Core.Path.{◌≡◌}
 use lib.ListN.{length}
-use Rattle.box_script.specs.Format.{length_at, calls_from, calls_of}
+use Rattle.box_script.specs.Format.{calls_of}
 use Rattle.box_script.specs.Run.{most, capped}
 use Rattle.box_script.proofs.Answers.{sizes_of}
+use Rattle.box_script.proofs.Format.{rest_at}
 use Rattle.box_script.proofs.scan.Given as goal
 
-abbrev pub invariant-loop-long : goal.invariant-loop-long
-invariant-loop-long l = record {
+abbrev pub invariant-loop-at : goal.invariant-loop-at
+invariant-loop-at l = record {
   few : l.calls ≤ l.at;
-  here : l.long ≡ length_at l.script l.at;
-  inside : l.at + l.long ≤ length l.script;
+  inside : l.at ≤ length l.script;
   carried : l.needed ≤ most;
-  counted : l.calls + length (calls_from (length l.script - l.calls) l.script l.at) ≡ length (calls_of l.script);
-  sized : capped (l.needed + sizes_of (calls_from (length l.script - l.calls) l.script l.at)) ≡ capped (sizes_of (calls_of l.script));
+  counted : l.calls + length (rest_at l.script l.at) ≡ length (calls_of l.script);
+  sized : capped (l.needed + sizes_of (rest_at l.script l.at)) ≡ capped (sizes_of (calls_of l.script));
 }
 
-abbrev pub decreases-loop-long : goal.decreases-loop-long
-decreases-loop-long l = length l.script - l.at
+abbrev pub decreases-loop-at : goal.decreases-loop-at
+decreases-loop-at l = length l.script - l.at
