@@ -1,7 +1,7 @@
 -- The fold of a list tells each position's character: a position is not among the differing ones exactly if each entry has the first one's bit there.
 -- And the first entry above the limit, where there is one. Assumes nothing.
 use Prim.Native.Nat.{ℕ, zero, suc, ◌+◌, ◌≤◌, ◌<◌, max}
-use mathlib.Core.Path.{◌≡◌, refl, sym, ap, ap₂, ◌∙◌, subst}
+use mathlib.Core.Path.{◌≡◌, refl, sym, ap, ap₂, ◌∙◌}
 use mathlib.Core.Bool.{Bool, true, false, cond, not, ◌&&◌}
 use mathlib.Core.List.{List, [], ◌∷◌}
 use lib.Bits.{bit_and, bit_or, bit_xor, differ}
@@ -86,36 +86,29 @@ differing-at first k d (n ∷ list) =
         laid ∙ omega (arith, bit-lt d k)
 
 -- ---- the characters
-folded : (first k : ℕ) (rest : List ℕ) → character_by (agreed_from first (first ∷ rest)) (differing_from first 0 (first ∷ rest)) k ≡ character_at (first ∷ rest) k
+pub folded : (first k : ℕ) (rest : List ℕ) → character_by (agreed_from first rest) (differing_from first 0 rest) k ≡ character_at (first ∷ rest) k
 unfolding character_at
 folded first k rest =
-    ap₂ (λ (d a : ℕ). cond (eqb d 1) 120 (48 + a)) (differing-at first k 0 list ∙ ap (λ (x : ℕ). cond (all_have (bit_at first k) k list) x 1) (bit-zero k)) (agreed-at k first list)
+    ap₂ (λ (d a : ℕ). cond (eqb d 1) 120 (48 + a)) (differing-at first k 0 rest ∙ ap (λ (x : ℕ). cond (all_have (bit_at first k) k rest) x 1) (bit-zero k)) (agreed-at k first rest)
     ∙ elim (ℕ_discrete (bit_at first k) 0) [ yes e ↦ zeros e | no n ↦ ones (omega (arith, bit-lt first k)) ]
   where
-    list : List ℕ
-    list = first ∷ rest
+    told : ℕ → ℕ
+    told b = cond (eqb (cond (all_have b k rest) 0 1) 1) 120 (48 + cond (all_have 1 k rest) b 0)
 
-    zeros : bit_at first k ≡ 0
-        → cond (eqb (cond (all_have (bit_at first k) k list) 0 1) 1) 120 (48 + cond (all_have 1 k list) (bit_at first k) 0) ≡ character_at list k
-    zeros e = subst (λ (b : ℕ). cond (eqb (cond (all_have b k list) 0 1) 1) 120 (48 + cond (all_have 1 k list) b 0) ≡ character_at list k) (sym e) (rw e (by (all_have 0 k rest)))
+    zeros : bit_at first k ≡ 0 → told (bit_at first k) ≡ character_at (first ∷ rest) k
+    zeros e = ap told e ∙ rw e (by (all_have 0 k rest) (all_have 1 k rest))
       where
-        by : (b : Bool) → ◌≡◌ {A = ℕ} (cond (eqb (cond b 0 1) 1) 120 48) (cond b 48 120)
-        by true = refl
-        by false = refl
+        by : (b c : Bool) → ◌≡◌ {A = ℕ} (cond (eqb (cond b 0 1) 1) 120 (48 + cond c 0 0)) (cond b 48 120)
+        by true true = refl
+        by true false = refl
+        by false c = refl
 
-    ones : bit_at first k ≡ 1
-        → cond (eqb (cond (all_have (bit_at first k) k list) 0 1) 1) 120 (48 + cond (all_have 1 k list) (bit_at first k) 0) ≡ character_at list k
-    ones e = subst (λ (b : ℕ). cond (eqb (cond (all_have b k list) 0 1) 1) 120 (48 + cond (all_have 1 k list) b 0) ≡ character_at list k) (sym e) (rw e (by (all_have 1 k rest)))
+    ones : bit_at first k ≡ 1 → told (bit_at first k) ≡ character_at (first ∷ rest) k
+    ones e = ap told e ∙ rw e (by (all_have 1 k rest))
       where
         by : (b : Bool) → ◌≡◌ {A = ℕ} (cond (eqb (cond b 0 1) 1) 120 (48 + cond b 1 0)) (cond b 49 120)
         by true = refl
         by false = refl
-
--- the same of a list that is not empty
-pub folded-list : (list : List ℕ) (k a d : ℕ) → 0 < length list → a ≡ agreed_from (get_or list 0 0) list → d ≡ differing_from (get_or list 0 0) 0 list
-    → character_by a d k ≡ character_at list k
-folded-list [] k a d h ea ed = absurd (omega arith)
-folded-list (first ∷ rest) k a d h ea ed = ap₂ (λ (x y : ℕ). character_by x y k) ea ed ∙ folded first k rest
 
 -- ---- the first entry above the limit, as the library's words have it
 pub above-first : (limit : ℕ) (s : List ℕ) → first_above limit s ≡ position_or_len (λ (n : ℕ). ltb limit n) s

@@ -1,7 +1,7 @@
 // A filter from a list: the single filter that lets all identifiers of a list through, and as little else as possible.
 #![tactic(auto)]
 
-ghost use Rattle.std.specs.Prelude.{◌≡◌, ℕ, ◌^◌, ◌<◌, ◌≤◌, length};
+ghost use Rattle.std.specs.Prelude.{◌≡◌, ◌∷◌, ℕ, ◌^◌, ◌<◌, ◌≤◌, length};
 ghost use Rattle.laws.specs.Laid.{laid_first};
 ghost use Rattle.filter_registers.specs.Registers.{mask_in};
 ghost use Rattle.filter_list.specs.Pattern.{character_at, character_by, down_from};
@@ -32,14 +32,13 @@ struct Agreement {
 }
 
 impl Agreement {
-    fn of(list: &[u32]) -> Agreement
-        requires { 0 < length list.now }
-        ensures { (k : ℕ) → character_by result.agreed result.differing k ≡ character_at list.now k }
+    // Of a list with this first entry.
+    fn of(first: u32, rest: &[u32]) -> Agreement
+        ensures { (k : ℕ) → character_by result.agreed result.differing k ≡ character_at (first ∷ rest.now) k }
     {
-        let first = list[0];
         let mut agreed = first;
         let mut differing = 0;
-        for &entry in list {
+        for &entry in rest {
             agreed &= entry;
             differing |= first ^ entry;
         }
@@ -101,9 +100,9 @@ pub fn from_list(extended: bool, list: &[u32], pattern: &mut [u8]) -> Result<Lis
     ensures result_value { listed_said result ≡ listed_of extended list.now (length pattern.old) }
     ensures pattern_after { pattern.new ≡ leaves extended list.now pattern.old }
 {
-    if list.is_empty() {
+    let Some((&first, rest)) = list.split_first() else {
         return Err(Refusal::EmptyList);
-    }
+    };
     let needed = identifiers::width(extended);
     if let Some(at) = above(list, identifiers::limit(extended)) {
         return Err(Refusal::EntryAboveLimit(at));
@@ -111,7 +110,7 @@ pub fn from_list(extended: bool, list: &[u32], pattern: &mut [u8]) -> Result<Lis
     if pattern.len() < needed {
         return Err(Refusal::OutputTooShort(needed));
     }
-    Agreement::of(list).write(needed, pattern);
+    Agreement::of(first, rest).write(needed, pattern);
     let registers = compile(extended, &pattern[..needed]);
     Ok(Listed {
         through: through(extended, &registers),
