@@ -8,8 +8,7 @@ ghost use Rattle.file_writing.specs.Writer.{write_of, leaves};
 ghost use Rattle.abi_files.specs.Numbers.{found_number, found_said};
 
 use abi_answers::Answer;
-use file_reading::{Reading, Sections};
-use file_writing::Writing;
+use file_reading::Sections;
 
 // Both counts and each section's start, in 16 bits each.
 fn found_number(sections: Sections) -> u64
@@ -29,8 +28,8 @@ pub extern "C" fn chherbolat_read_file(file: &[u8]) -> Answer
     ensures { result ≡ answer_of (found_said (read_of file.now)) }
 {
     match file_reading::read_file(file) {
-        Reading::Read(sections) => abi_answers::given(found_number(sections)),
-        Reading::Refused(refusal) => abi_answers::refused(refusal),
+        Ok(sections) => abi_answers::given(found_number(sections)),
+        Err(refusal) => abi_answers::refused(refusal),
     }
 }
 
@@ -39,8 +38,6 @@ pub extern "C" fn chherbolat_write_file(filters: &[u8], frames: &[u8], out: &mut
     ensures value { result ≡ answer_of (write_of filters.now frames.now (length out.old)) }
     ensures out_after { out.new ≡ leaves filters.now frames.now out.old }
 {
-    match file_writing::write_file(filters, frames, out) {
-        Writing::Written(length) => abi_answers::given(length as u64),
-        Writing::Refused(refusal) => abi_answers::refused(refusal),
-    }
+    let written = file_writing::write_file(filters, frames, out);
+    abi_answers::answered(written.map(|length| length as u64))
 }

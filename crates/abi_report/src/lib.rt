@@ -7,15 +7,12 @@ ghost use Rattle.abi_answers.specs.Answers.{answer_of};
 ghost use Rattle.file_report.specs.Text.{text_of};
 
 use abi_answers::Answer;
-use text::Laying;
 
 #[unsafe(no_mangle)]
 pub extern "C" fn chherbolat_report(file: &[u8], out: &mut [u8]) -> Answer
     ensures value { result ≡ answer_of (laying (text_of file.now) out.old) }
     ensures out_after { out.new ≡ written (laying (text_of file.now) out.old) (text_of file.now) out.old }
 {
-    match file_report::report(file, out) {
-        Laying::Laid(length) => abi_answers::given(length as u64),
-        Laying::Refused(refusal) => abi_answers::refused(refusal),
-    }
+    let laid = file_report::report(file, out);
+    abi_answers::answered(laid.map(|length| length as u64))
 }
