@@ -7,15 +7,11 @@ ghost use Rattle.abi_answers.specs.Answers.{answer_of};
 ghost use Rattle.box_script.specs.Run.{run_of, answers_to};
 
 use abi_answers::Answer;
-use box_script::Running;
 
 #[unsafe(no_mangle)]
 pub extern "C" fn chherbolat_box_script(script: &[u8], out: &mut [u8]) -> Answer
     ensures value { result ≡ answer_of (run_of script.now (length out.old)) }
     ensures out_after { out.new ≡ written (run_of script.now (length out.old)) (answers_to script.now) out.old }
 {
-    match box_script::run_script(script, out) {
-        Running::Ran(calls) => abi_answers::given(calls as u64),
-        Running::Refused(refusal) => abi_answers::refused(refusal),
-    }
+    abi_answers::answered(box_script::run_script(script, out).map(|calls| calls as u64))
 }

@@ -3,13 +3,15 @@
 
 ghost use Rattle.box_lent.specs.Calls.{arrive_lent, take_lent, start_lent, step_lent};
 
-use box_drain::{Starting, StepAnswer};
-use box_queue::TakeAnswer;
-use box_state::{Arriving, ReceiveBox};
+use box_drain::StepAnswer;
+use box_fifo::Arrival;
+use box_records::Record;
+use box_state::ReceiveBox;
 use box_words::Words;
+use refusals::Refusal;
 
 // A frame arrives at the controller.
-pub fn arrive(state: &mut ReceiveBox, frame: [u8; 13]) -> Arriving
+pub fn arrive(state: &mut ReceiveBox, frame: [u8; 13]) -> Result<Arrival, Refusal>
     ensures { arrive_lent state.old frame result state.new }
 {
     let arrived = (*state).arrive(frame);
@@ -18,7 +20,7 @@ pub fn arrive(state: &mut ReceiveBox, frame: [u8; 13]) -> Arriving
 }
 
 // The program takes the oldest record.
-pub fn take(state: &mut ReceiveBox) -> TakeAnswer
+pub fn take(state: &mut ReceiveBox) -> Result<Option<Record>, Refusal>
     ensures { take_lent state.old result state.new }
 {
     let taken = (*state).take();
@@ -27,7 +29,7 @@ pub fn take(state: &mut ReceiveBox) -> TakeAnswer
 }
 
 // A drain starts: its words are stored, and no step is made.
-pub fn start(state: &mut ReceiveBox, words: Words) -> Starting
+pub fn start(state: &mut ReceiveBox, words: Words) -> Result<(), Refusal>
     ensures { start_lent state.old words result state.new }
 {
     let started = box_drain::start(*state, words);
@@ -36,7 +38,7 @@ pub fn start(state: &mut ReceiveBox, words: Words) -> Starting
 }
 
 // The next step of the drain that runs.
-pub fn step(state: &mut ReceiveBox) -> StepAnswer
+pub fn step(state: &mut ReceiveBox) -> Result<StepAnswer, Refusal>
     ensures { step_lent state.old result state.new }
 {
     let stepped = box_drain::step(*state);
