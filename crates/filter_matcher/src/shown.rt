@@ -8,7 +8,7 @@ ghost use Rattle.filter_matcher.specs.Shown.{first_named, show_of, show_by};
 use identifiers::{ExtendedId, Id, StandardId};
 
 // What a frame shows: its word for a single filter and the positions that it names, and the same for the two halves of a dual filter.
-#[derive(Clone, Copy)]
+#[derive(Clone, Copy, Debug, PartialEq, Eq)]
 pub struct Shown {
     pub single: u32,
     pub named: u32,
@@ -21,23 +21,18 @@ pub struct Shown {
 fn named_single(bytes: usize) -> u32
     ensures { result ≡ first_named single_standard bytes }
 {
-    if bytes == 0 {
-        return 0xFFF0_0000;
+    match bytes {
+        0 => 0xFFF0_0000,
+        1 => 0xFFF0_FF00,
+        _ => 0xFFF0_FFFF,
     }
-    if bytes == 1 {
-        return 0xFFF0_FF00;
-    }
-    0xFFF0_FFFF
 }
 
 // The same to the first half of a dual filter.
 fn named_first(bytes: usize) -> u32
     ensures { result ≡ first_named dual_standard bytes }
 {
-    if bytes > 0 {
-        return 0xFFFF_000F;
-    }
-    0xFFF0_0000
+    if bytes > 0 { 0xFFFF_000F } else { 0xFFF0_0000 }
 }
 
 fn show_standard(id: StandardId, rtr: u32, bytes: usize, byte: u32, next: u32) -> Shown
