@@ -3,7 +3,7 @@ use Prim.Native.Nat.{ℕ, zero, suc, ◌+◌, ◌-◌, ◌*◌, ◌/◌, ◌%◌
 use mathlib.Core.Path.{◌≡◌, refl, sym, ap, ◌∙◌}
 use mathlib.Core.Bool.{Bool, true, false}
 use mathlib.Core.List.{List, [], ◌∷◌, ◌++◌, append_assoc, append-nil}
-use lib.ListN.{length, get_or, take, set, length-append}
+use lib.ListN.{length, get_or, take, length-append}
 use lib.Pow.{pow-add}
 use lib.Seq.{take-suc, length-take-le, take-length}
 use native.Mathlib.Nat.{pow-suc}
@@ -12,12 +12,11 @@ use native.Mathlib.Numerals.{add-one}
 use native.Mathlib.Omega.{arith}
 use borrow.Author.Tests.{le-leb, lt-leb}
 use Rattle.laws.specs.Ascii.{ascii}
-use Rattle.laws.specs.Laid.{laid}
-use Rattle.laws.proofs.Laid.{laid_more}
+use Rattle.text.specs.Decimal.{decimal}
+use Rattle.text.proofs.Decimal.{decimal-long}
 use Rattle.filter_list.proofs.Pattern.{down-length, down-at}
 use Rattle.filter_report.specs.Hex.{hex_digit}
-use Rattle.filter_report.specs.Page.{Put}
-use Rattle.filter_report.specs.Listed.{hex_width, last_digits, id_text, ids_text, front_text}
+use Rattle.filter_report.specs.Listed.{hex_width, last_digits, id_text, ids_text, front_text, listed_text}
 
 -- ---- a number's last digits
 -- a digit is four bits
@@ -25,22 +24,17 @@ pub four-bits : (k : ℕ) → 2 ^ (4 * k) ≡ 16 ^ k
 four-bits zero = refl
 four-bits (suc k) = ap (λ (n : ℕ). 2 ^ n) {x = 4 * suc k} {y = 4 * k + 4} (omega arith) ∙ pow-add 2 (4 * k) 4 ∙ ap (λ (n : ℕ). n * 16) (four-bits k) ∙ sym (pow-suc 16 k)
 
-pub digits-turn : (at width number i x : ℕ) (page now : List ℕ) → i < width → at + width ≤ length page → now ≡ laid at (take i (last_digits width number)) page
-    → x ≡ hex_digit (number / 16 ^ (width - 1 - i) % 16) → set now (at + i) x ≡ laid at (take (i + 1) (last_digits width number)) page
-digits-turn at width number i x page now h room e ex =
+pub digits-turn : (width number i : ℕ) → i < width
+    → take i (last_digits width number) ++ (hex_digit (number / 16 ^ (width - 1 - i) % 16) ∷ []) ≡ take (i + 1) (last_digits width number)
+digits-turn width number i h =
     let digits = last_digits width number in
     let long : length digits ≡ width = down-length width (λ k. hex_digit (number / 16 ^ k % 16)) in
-    ap (set now (at + i)) (ex ∙ sym (down-at width (λ k. hex_digit (number / 16 ^ k % 16)) i h))
-    ∙ laid_more at i digits page now (omega (arith, long)) (omega (arith, long)) e
+    ap (λ (x : ℕ). take i digits ++ (x ∷ [])) (sym (down-at width (λ k. hex_digit (number / 16 ^ k % 16)) i h))
+    ∙ sym (take-suc digits i 0 (omega (arith, long)))
+    ∙ ap (λ (n : ℕ). take n digits) (sym (add-one i))
 
-pub digits-end : (at width number i : ℕ) (page now : List ℕ) → i ≡ width → now ≡ laid at (take i (last_digits width number)) page → Put at (last_digits width number) page now (at + i)
-digits-end at width number i page now e p =
-    let digits = last_digits width number in
-    let long : length digits ≡ width = down-length width (λ k. hex_digit (number / 16 ^ k % 16)) in
-    record {
-      behind = omega (arith, e, long);
-      stands = p ∙ ap (λ (n : ℕ). laid at (take n digits) page) (e ∙ sym long) ∙ rw take-length;
-    }
+pub digits-all : (width number : ℕ) → take width (last_digits width number) ≡ last_digits width number
+digits-all width number = ap (λ (n : ℕ). take n (last_digits width number)) (sym (down-length width (λ k. hex_digit (number / 16 ^ k % 16)))) ∙ take-length (last_digits width number)
 
 -- ---- identifiers
 pub id-long : (extended : Bool) (id : ℕ) → length (id_text extended id) ≤ 11
@@ -81,9 +75,9 @@ pub ids-first : (extended : Bool) (list : List ℕ) (i : ℕ) → i ≤ length l
 ids-first extended list i h = omega (arith, ids-long extended (take i list), length-take-le i list h)
 
 -- ---- the entries of a list
-pub front-few : (extended : Bool) (list : List ℕ) → length list ≤ 16 → ids_text extended (take (length list) list) ≡ front_text extended list
+pub front-few : (extended : Bool) (list : List ℕ) → length list ≤ 16 → ids_text extended list ≡ front_text extended list
 unfolding front_text
-front-few extended list h = rw (le-leb (length list) 16 h, take-length)
+front-few extended list h = rw (le-leb (length list) 16 h)
 
 pub front-many : (extended : Bool) (list : List ℕ) → 16 < length list → ids_text extended (take 16 list) ++ ascii " .." ≡ front_text extended list
 unfolding front_text
@@ -93,5 +87,19 @@ pub front_long : (extended : Bool) (list : List ℕ) → length (front_text exte
 front_long extended list =
     elim (dec_lt 16 (length list)) [
       | yes h ↦ omega (arith, ap length (front-many extended list h), length-append (ids_text extended (take 16 list)) (ascii " .."), ids-first extended list 16 (omega arith))
-      | no h ↦ omega (arith, ap length (front-few extended list (omega arith)), ids-first extended list (length list) (omega arith))
+      | no h ↦ omega (arith, ap length (front-few extended list (omega arith)), ids-long extended list)
     ]
+
+pub listed-long : (extended : Bool) (list : List ℕ) → length list ≤ 32768 → length (listed_text extended list) ≤ 193
+unfolding listed_text
+listed-long extended list few =
+    let front = front_text extended list in
+    let count = decimal (length list) in
+    omega (
+      arith,
+      decimal-long 4 (length list) (omega arith),
+      front_long extended list,
+      length-append (ascii "listed ") (count ++ (ascii ":" ++ (front ++ ascii "\n"))),
+      length-append count (ascii ":" ++ (front ++ ascii "\n")),
+      length-append front (ascii "\n"),
+    )

@@ -3,6 +3,7 @@ pub mod Split
 pub mod Within
 pub mod Page
 pub mod Shown
+pub mod Places
 pub mod Listed
 pub mod Ids
 pub mod Members

@@ -1,8 +1,8 @@
 -- The answer to a list that is not empty and within its limit, and what stands on the page for it. Assumes nothing.
 use Prim.Native.Nat.{ℕ, ◌≤◌, ◌<◌}
-use mathlib.Core.Path.{◌≡◌, sym, ap, ◌∙◌}
+use mathlib.Core.Path.{◌≡◌, refl, sym, ap, ◌∙◌}
 use mathlib.Core.Bool.{Bool, true, false, false≢true}
-use mathlib.Core.List.{List}
+use mathlib.Core.List.{List, [], ◌∷◌}
 use lib.ListN.{length, take}
 use lib.Seq.{take_at}
 use native.Mathlib.Omega.{arith}
@@ -12,14 +12,15 @@ use Rattle.laws.specs.Laid.{laid_first, written}
 use Rattle.laws.proofs.Said.{gives_same}
 use Rattle.identifiers.specs.Limits.{width_of, limit_of}
 use Rattle.filter_list.specs.Pattern.{character_at, pattern_of}
-use Rattle.filter_list.specs.Answers.{first_above, through_of, registers_of_list, listing_of, listed_of, leaves, listing_said, listed_said}
-use Rattle.filter_list.specs.declared.Listing.{Listing}
-use Rattle.filter_list.specs.declared.Listing.TheVariants.{Made, Refused}
+use Rattle.filter_list.specs.Answers.{first_above, through_of, registers_of_list, listing_of, listed_of, leaves, listed_said}
+use Rattle.refusals.specs.declared.Refusal.{Refusal}
 use Rattle.filter_list.specs.declared.Listed.{Listed}
 use Rattle.filter_list.proofs.Pattern.{down-length}
 use Rattle.filter_report.specs.Lines.{Found, listed, found_in}
-use Rattle.filter_report.specs.declared.lines.Reading.{Reading}
-use Rattle.filter_report.specs.Parts.{reading_found, reading_within, through_in}
+use Rattle.std.specs.Prelude.{Result, Ok, Err}
+use Rattle.filter_report.specs.declared.faults.FaultyLine.{FaultyLine}
+use Rattle.filter_report.specs.Parts.{reading_found}
+use Rattle.filter_report.specs.Text.{none_text, list_text, filter_text}
 use Rattle.filter_report.proofs.Within.{AllWithin, found_within}
 
 pub width_small : (extended : Bool) → width_of extended ≤ 29
@@ -30,10 +31,6 @@ pub pattern-long : (extended : Bool) (list : List ℕ) → length (pattern_of (w
 unfolding pattern_of
 pattern-long extended list = down-length (width_of extended) (character_at list)
 
-made-through : (answer : Listing) (n : ℕ) → listing_said answer ≡ gives n → through_in answer ≡ n
-made-through (Made m) n e = gives_same m n e
-made-through (Refused f) n e = absurd (false≢true (ap accepted e))
-
 module _ (extended : Bool) (list : List ℕ) (some : 0 < length list) (within : first_above (limit_of extended) list ≡ length list) where
   made : listing_of extended list 29 ≡ gives (through_of extended (registers_of_list extended list))
   unfolding listing_of
@@ -42,11 +39,14 @@ module _ (extended : Bool) (list : List ℕ) (some : 0 < length list) (within : 
   both : listed_of extended list 29 ≡ (gives (through_of extended (registers_of_list extended list)), registers_of_list extended list)
   both = rw made
 
-  pub through-made : (r : Listed) → listed_said r ≡ listed_of extended list 29 → through_in r.answer ≡ through_of extended (registers_of_list extended list)
-  through-made r e = made-through r.answer _ (ap (λ (p : Said ℕ × List ℕ). p.0) (e ∙ both))
+  pub through-made : (l : Listed) → listed_said (Ok l) ≡ listed_of extended list 29 → l.through ≡ through_of extended (registers_of_list extended list)
+  through-made l e = gives_same l.through _ (ap (λ (p : Said ℕ × List ℕ). p.0) (e ∙ both))
 
-  pub registers-made : (r : Listed) → listed_said r ≡ listed_of extended list 29 → r.registers ≡ registers_of_list extended list
-  registers-made r e = ap (λ (p : Said ℕ × List ℕ). p.1) (e ∙ both)
+  pub registers-made : (l : Listed) → listed_said (Ok l) ≡ listed_of extended list 29 → l.registers ≡ registers_of_list extended list
+  registers-made l e = ap (λ (p : Said ℕ × List ℕ). p.1) (e ∙ both)
+
+  not-refused : (f : Refusal) → listed_said (Err f) ≡ listed_of extended list 29 → ⊥
+  not-refused f e = false≢true (ap (λ (p : Said ℕ × List ℕ). accepted p.0) (e ∙ both))
 
   pub pattern-made : (out now : List ℕ) → length out ≡ 29 → now ≡ leaves extended list out → take (width_of extended) now ≡ pattern_of (width_of extended) list
   unfolding written
@@ -56,15 +56,25 @@ module _ (extended : Bool) (list : List ℕ) (some : 0 < length list) (within : 
       ap (take (width_of extended)) laid ∙ take_at (pattern_of (width_of extended) list) _ (width_of extended) (pattern-long extended list)
 
 -- a reading by its case
-pub within_by : (r s : Reading) (size n : ℕ) → r ≡ s → reading_within r size n → reading_within s size n
-within_by r s size n e h = rw e at h
-
-pub found-by : (r s : Reading) (l limit : ℕ) (hex : Bool) (text list : List ℕ) → r ≡ s → l ≡ limit → reading_found r text list ≡ found_in l hex text
-    → reading_found s text list ≡ found_in limit hex text
-found-by r s l limit hex text list e p f = sym (ap (λ (q : Reading). reading_found q text list) e) ∙ f ∙ ap (λ (n : ℕ). found_in n hex text) p
+pub found_listed : (limit : ℕ) (hex : Bool) (text list : List ℕ) (r : Result ℕ FaultyLine) (count : ℕ) → r ≡ Ok count → reading_found r list ≡ found_in limit hex text → listed (take count list) ≡ found_in limit hex text
+found_listed limit hex text list r count e f = ap (λ (q : Result ℕ FaultyLine). reading_found q list) (sym e) ∙ f
 
 pub all-within : (limit : ℕ) (hex : Bool) (text list : List ℕ) → listed list ≡ found_in limit hex text → first_above limit list ≡ length list
 all-within limit hex text list e = by (found_in limit hex text) (sym e) (found_within limit hex text)
   where
     by : (f : Found) → f ≡ listed list → AllWithin limit f → AllWithin limit (listed list)
     by f p a = rw p at a
+
+-- a list within its limit is refused only where it is empty
+pub listed-none : (extended : Bool) (list : List ℕ) (f : Refusal) → first_above (limit_of extended) list ≡ length list → listed_said (Err f) ≡ listed_of extended list 29 → none_text ≡ list_text extended list
+listed-none extended [] f within e = refl
+listed-none extended (n ∷ list) f within e = absurd (not-refused extended (n ∷ list) (omega arith) within f e)
+
+pub listed-some : (extended : Bool) (list : List ℕ) (l : Listed) → listed_said (Ok l) ≡ listed_of extended list 29 → 0 < length list
+unfolding listing_of
+listed-some extended [] l e = absurd (false≢true (sym (ap (λ (p : Said ℕ × List ℕ). accepted p.0) e)))
+listed-some extended (n ∷ list) l e = omega arith
+
+pub list-filter : (extended : Bool) (list : List ℕ) → 0 < length list → filter_text extended list ≡ list_text extended list
+list-filter extended [] some = absurd (omega arith)
+list-filter extended (n ∷ list) some = refl

@@ -11,7 +11,7 @@ use native.Mathlib.Numerals.{add-one}
 use native.Mathlib.Omega.{arith}
 use borrow.Author.Tests.{eq-eqb, ne_eqb}
 use Rattle.filter_report.specs.Through.{raised, members_of}
-use Rattle.filter_report.proofs.Scan.{at_place, past_end}
+use Rattle.filter_report.proofs.Places.{at_place, past_end}
 
 pub raised_long : (by : ℕ) (numbers : List ℕ) → length (raised by numbers) ≡ length numbers
 unfolding raised

@@ -1,46 +1,57 @@
--- Texts put on a page one behind another, and numbers in hexadecimal. Assumes nothing.
+-- Texts one behind another on a page that has room for them, and numbers in hexadecimal. Assumes nothing.
 use Prim.Native.Nat.{ℕ, ◌+◌, ◌*◌, ◌/◌, ◌%◌, ◌≤◌, ◌<◌}
-use mathlib.Core.Path.{◌≡◌, refl, sym, ap, ap₂, ◌∙◌}
-use mathlib.Core.List.{List, [], ◌∷◌, ◌++◌}
-use lib.ListN.{length, get_or, take, set, length-append}
-use lib.Seq.{take-suc, length-take-le}
+use mathlib.Core.Path.{◌≡◌, refl, sym, ap, ◌∙◌}
+use mathlib.Core.List.{List, [], ◌∷◌, ◌++◌, append_assoc, append-nil}
+use lib.ListN.{length, get_or, take, length-append}
+use lib.Seq.{take-suc}
 use native.Mathlib.Numerals.{add-one}
 use native.Mathlib.Omega.{arith}
-use Rattle.laws.specs.Laid.{laid}
-use Rattle.laws.proofs.Laid.{length-laid, laid_then, set_then, laid_none}
+use borrow.Author.Tests.{le-leb}
+use Rattle.text.specs.Page.{added}
+use Rattle.laws.specs.Ascii.{ascii}
 use Rattle.filter_report.specs.Hex.{hex_digit, hex_of}
-use Rattle.filter_report.specs.Page.{Put}
+use Rattle.filter_report.specs.Text.{registers_text}
 
 -- ---- one text behind another
-pub put_then : {at next last : ℕ} {a b page was now : List ℕ} → at ≤ length page → Put at a page was next → Put next b was now last → Put at (a ++ b) page now last
-put_then {at} {next} {last} {a} {b} {page} {was} {now} h p q =
-    record {
-      behind = omega (arith, p.behind, q.behind, length-append a b);
-      stands = q.stands ∙ ap (laid next b) p.stands ∙ laid_then next at a b page p.behind h;
-    }
+pub added_is : (page text now : List ℕ) → length page + length text ≤ 512 → now ≡ added 512 page text → now ≡ page ++ text
+unfolding added
+added_is page text now room e = e ∙ rw (le-leb (length page + length text) 512 room)
 
-put-long : {at next : ℕ} {a page now : List ℕ} → at + length a ≤ length page → Put at a page now next → length now ≡ length page
-put-long {at} {next} {a} {page} {now} h p = ap length p.stands ∙ length-laid at a page h
+pub behind : (page text now more : List ℕ) → now ≡ page ++ text → now ++ more ≡ page ++ (text ++ more)
+behind page text now more e = ap (λ (l : List ℕ). l ++ more) e ∙ append_assoc page text more
 
--- five texts
-pub line-put : {at r₁ r₂ r₃ r₄ r₅ : ℕ} {a b c d e page p₁ p₂ p₃ p₄ p₅ : List ℕ} → at + length a + length b + length c + length d ≤ length page
-    → Put at a page p₁ r₁ → Put r₁ b p₁ p₂ r₂ → Put r₂ c p₂ p₃ r₃ → Put r₃ d p₃ p₄ r₄ → Put r₄ e p₄ p₅ r₅ → Put at (a ++ (b ++ (c ++ (d ++ e)))) page p₅ r₅
-line-put room q₁ q₂ q₃ q₄ q₅ =
-    let l₁ = put-long (omega arith) q₁ in
-    let l₂ = put-long (omega (arith, l₁, q₁.behind)) q₂ in
-    let l₃ = put-long (omega (arith, l₁, l₂, q₁.behind, q₂.behind)) q₃ in
-    put_then (omega arith) q₁
-    (put_then (omega (arith, l₁, q₁.behind)) q₂
-    (put_then (omega (arith, l₁, l₂, q₁.behind, q₂.behind)) q₃ (put_then (omega (arith, l₁, l₂, l₃, q₁.behind, q₂.behind, q₃.behind)) q₄ q₅)))
+pub long : (page text now : List ℕ) → now ≡ page ++ text → length now ≡ length page + length text
+long page text now e = ap length e ∙ length-append page text
 
-pub put-none : (at : ℕ) (page : List ℕ) → Put at [] page page at
-put-none at page = record { behind = omega arith; stands = sym (laid_none at page) }
+pub empty : (page text : List ℕ) → text ≡ [] → page ≡ page ++ text
+empty page text e = sym (ap (λ (l : List ℕ). page ++ l) e ∙ append-nil page)
 
-pub put-equal : {at next : ℕ} {a b page now : List ℕ} → a ≡ b → Put at a page now next → Put at b page now next
-put-equal {at} {next} {a} {b} {page} {now} e p = rw e at p
+-- three texts
+module _ (page a b c p₁ p₂ p₃ : List ℕ) (e₁ : p₁ ≡ added 512 page a) (e₂ : p₂ ≡ added 512 p₁ b) (e₃ : p₃ ≡ added 512 p₂ c) (room : length page + length a + length b + length c ≤ 512) where
+  first : p₁ ≡ page ++ a
+  first = added_is page a p₁ (omega arith) e₁
+
+  second : p₂ ≡ p₁ ++ b
+  second = added_is p₁ b p₂ (omega (arith, long page a p₁ first)) e₂
+
+  third : p₃ ≡ p₂ ++ c
+  third = added_is p₂ c p₃ (omega (arith, long page a p₁ first, long p₁ b p₂ second)) e₃
+
+  pub three-long : length p₃ ≡ length page + length a + length b + length c
+  three-long = omega (arith, long page a p₁ first, long p₁ b p₂ second, long p₂ c p₃ third)
+
+  pub three : (more : List ℕ) → p₃ ++ more ≡ page ++ (a ++ (b ++ (c ++ more)))
+  three more = behind p₂ c p₃ more third ∙ behind p₁ b p₂ (c ++ more) second ∙ behind page a p₁ (b ++ (c ++ more)) first
+
+-- two more, of which a function of its own put the first
+pub five : (page a b c d e p₁ p₂ p₃ p₄ p₅ : List ℕ) → length page + length a + length b + length c + length d + length e ≤ 512
+    → p₁ ≡ added 512 page a → p₂ ≡ added 512 p₁ b → p₃ ≡ added 512 p₂ c → p₄ ≡ p₃ ++ d → p₅ ≡ added 512 p₄ e → p₅ ≡ page ++ (a ++ (b ++ (c ++ (d ++ e))))
+five page a b c d e p₁ p₂ p₃ p₄ p₅ room e₁ e₂ e₃ e₄ e₅ =
+    let before : length p₃ ≡ length page + length a + length b + length c = three-long page a b c p₁ p₂ p₃ e₁ e₂ e₃ (omega arith) in
+    added_is p₄ e p₅ (omega (arith, before, long p₃ d p₄ e₄)) e₅ ∙ behind p₃ d p₄ e e₄ ∙ three page a b c p₁ p₂ p₃ e₁ e₂ e₃ (omega arith) (d ++ e)
 
 -- ---- bytes in hexadecimal
-hex-more : (a : List ℕ) (byte : ℕ) → hex_of (a ++ (byte ∷ [])) ≡ (hex_of a ++ (hex_digit (byte / 16) ∷ [])) ++ (hex_digit (byte % 16) ∷ [])
+hex-more : (a : List ℕ) (byte : ℕ) → hex_of (a ++ (byte ∷ [])) ≡ hex_of a ++ (hex_digit (byte / 16) ∷ hex_digit (byte % 16) ∷ [])
 unfolding hex_of
 hex-more [] byte = refl
 hex-more (b ∷ a) byte = ap (λ (l : List ℕ). hex_digit (b / 16) ∷ hex_digit (b % 16) ∷ l) (hex-more a byte)
@@ -50,17 +61,25 @@ unfolding hex_of
 hex-long [] = refl
 hex-long (b ∷ a) = omega (arith, hex-long a)
 
-pub hex-none : (at : ℕ) (page : List ℕ) → page ≡ laid at (hex_of []) page
+pub hex-none : hex_of [] ≡ []
 unfolding hex_of
-hex-none at page = sym (laid_none at page)
+hex-none = refl
 
-pub hex-turn : (at i x y : ℕ) (bytes page now : List ℕ) → i < length bytes → at + 2 * length bytes ≤ length page → now ≡ laid at (hex_of (take i bytes)) page
-    → x ≡ hex_digit (get_or bytes i 0 / 16) → y ≡ hex_digit (get_or bytes i 0 % 16)
-    → set (set now (at + 2 * i) x) (at + 2 * i + 1) y ≡ laid at (hex_of (take (i + 1) bytes)) page
-hex-turn at i x y bytes page now h room e ex ey =
-    let front = hex_of (take i bytes) in
-    let long : length front ≡ 2 * i = hex-long (take i bytes) ∙ ap (λ (n : ℕ). 2 * n) (length-take-le i bytes (omega arith)) in
-    let one : set now (at + 2 * i) x ≡ laid at (front ++ (x ∷ [])) page = ap (λ (l : List ℕ). set l (at + 2 * i) x) e ∙ set_then (at + 2 * i) x at front page (omega (arith, long)) (omega arith) in
-    ap (λ (l : List ℕ). set l (at + 2 * i + 1) y) one
-    ∙ set_then (at + 2 * i + 1) y at (front ++ (x ∷ [])) page (omega (arith, long, length-append front (x ∷ []))) (omega arith)
-    ∙ ap (λ (l : List ℕ). laid at l page) (ap₂ (λ (a b : ℕ). (front ++ (a ∷ [])) ++ (b ∷ [])) ex ey ∙ sym (hex-more (take i bytes) (get_or bytes i 0)) ∙ ap hex_of (sym (take-suc bytes i 0 h) ∙ ap (λ (n : ℕ). take n bytes) (sym (add-one i))))
+pub hex-turn : (bytes : List ℕ) (i : ℕ) → i < length bytes → hex_of (take i bytes) ++ (hex_digit (get_or bytes i 0 / 16) ∷ hex_digit (get_or bytes i 0 % 16) ∷ []) ≡ hex_of (take (i + 1) bytes)
+hex-turn bytes i h = sym (hex-more (take i bytes) (get_or bytes i 0)) ∙ ap hex_of (sym (take-suc bytes i 0 h) ∙ ap (λ (n : ℕ). take n bytes) (sym (add-one i)))
+
+-- a turn of a loop: one text more behind those that a list's front makes
+pub turn : (first part page text now next : List ℕ) → page ≡ first ++ part → now ≡ page ++ text → part ++ text ≡ next → now ≡ first ++ next
+turn first part page text now next e n s = n ∙ behind first part page text e ∙ ap (λ (l : List ℕ). first ++ l) s
+
+-- ---- a pattern and its registers
+pub registers-long : (pattern registers : List ℕ) → length pattern ≤ 29 → length registers ≤ 8 → length (registers_text pattern registers) ≤ 65
+unfolding registers_text
+registers-long pattern registers p r =
+    let hex = hex_of registers in
+    omega (
+      arith,
+      hex-long registers,
+      length-append pattern (ascii "\nregisters " ++ (hex ++ ascii "\n")),
+      length-append hex (ascii "\n"),
+    )

@@ -1,8 +1,8 @@
 -- Numbers that occur in a list, and those that do not: one by one, how many they are, and their text. Assumes nothing.
 use Prim.Native.Nat.{ℕ, suc, ◌+◌, ◌^◌, ◌≤◌, ◌<◌}
 use mathlib.Core.Path.{◌≡◌, refl, sym, ap, ap₂, ◌∙◌}
-use mathlib.Core.Bool.{Bool, true, false, cond}
-use mathlib.Core.List.{List, [], ◌∷◌, ◌++◌, Memᴰ}
+use mathlib.Core.Bool.{Bool, true, false, cond, ◌||◌}
+use mathlib.Core.List.{List, [], ◌∷◌, ◌++◌, append-nil, Memᴰ}
 use lib.Dec.{eqb}
 use lib.ListN.{length, get_or, take, drop, length-append, take-append-drop}
 use lib.Seq.{take-suc}
@@ -13,38 +13,35 @@ use borrow.Author.Tests.{eq-eqb, ne_eqb, le-leb, lt-leb}
 use Rattle.laws.specs.Ascii.{ascii}
 use Rattle.text.specs.Decimal.{decimal}
 use Rattle.text.proofs.Decimal.{decimal-long}
-use Rattle.filter_report.specs.Listed.{ids_text}
+use Rattle.filter_report.specs.Listed.{id_text, ids_text}
 use Rattle.filter_report.specs.Through.{occurs, different, without, rest_text}
-use Rattle.filter_report.proofs.Scan.{at_place, past_end}
-use Rattle.filter_report.proofs.Ids.{ids-long}
+use Rattle.std.specs.List.{list_any}
+use Rattle.filter_report.proofs.Ids.{ids-long, ids-join, id-alone}
 
--- ---- looked for from left to right
-module _ (list : List ℕ) (i n : ℕ) (h : i < length list) where
-  pub occurs-here : get_or list i 0 ≡ n → occurs n (drop i list) ≡ true
-  unfolding occurs
-  occurs-here e = rw (at_place list i h, eq-eqb (get_or list i 0) n e)
-
-  pub occurs-later : (get_or list i 0 ≡ n → ⊥) → occurs n (drop i list) ≡ occurs n (drop (i + 1) list)
-  unfolding occurs
-  occurs-later e = ap (occurs n) (at_place list i h) ∙ rw (ne_eqb (get_or list i 0) n e)
-
-pub occurs-none : (list : List ℕ) (i n : ℕ) → length list ≤ i → occurs n (drop i list) ≡ false
+-- ---- looked for
+pub occurs_is : (n : ℕ) (list : List ℕ) → list_any (λ m. eqb m n) list ≡ occurs n list
 unfolding occurs
-occurs-none list i n h = rw (past_end list i h)
+occurs_is n [] = refl
+occurs_is n (m ∷ list) = by (eqb m n) (occurs_is n list)
+  where
+    by : (b : Bool) → list_any (λ m. eqb m n) list ≡ occurs n list → b || list_any (λ m. eqb m n) list ≡ cond b true (occurs n list)
+    by true e = refl
+    by false e = e
 
 -- ---- counted from left to right
-module _ (list : List ℕ) (i : ℕ) (h : i < length list) where
-  pub different-again : occurs (get_or list i 0) (drop (i + 1) list) ≡ true → different (drop i list) ≡ 0 + different (drop (i + 1) list)
+module _ (n : ℕ) (rest behind : List ℕ) (first : rest ≡ n ∷ behind) where
+  pub different-again : occurs n behind ≡ true → different rest ≡ different behind
   unfolding different
-  different-again e = ap different (at_place list i h) ∙ rw e (omega arith)
+  different-again e = ap different first ∙ rw e
 
-  pub different-last : occurs (get_or list i 0) (drop (i + 1) list) ≡ false → different (drop i list) ≡ 1 + different (drop (i + 1) list)
+  pub different-last : occurs n behind ≡ false → different rest ≡ different behind + 1
   unfolding different
-  different-last e = ap different (at_place list i h) ∙ rw e (omega arith)
+  different-last e = ap different first ∙ rw e (omega arith)
 
-pub different-end : (list : List ℕ) (i : ℕ) → length list ≤ i → different (drop i list) ≡ 0
+pub different-end : (rest : List ℕ) → length rest ≡ 0 → different rest ≡ 0
 unfolding different
-different-end list i h = rw (past_end list i h)
+different-end [] h = refl
+different-end (n ∷ rest) h = absurd (omega arith)
 
 -- ---- the numbers that do not occur, one by one
 pub without-listed : (list : List ℕ) (n : ℕ) → occurs n list ≡ true → without list (n ∷ []) ≡ []
@@ -80,6 +77,23 @@ module _ (list numbers : List ℕ) (k : ℕ) (h : k < length numbers) where
       let long = ap length all ∙ length-append (without list (take (k + 1) numbers)) (without list rest) in
       let turn = length-append (without list (take k numbers)) (without list (get_or numbers k 0 ∷ [])) in
       omega (arith, long, turn, ap length without-turn)
+
+  -- one number more: it is listed, or it is put
+  module _ (extended : Bool) (n : ℕ) (here : n ≡ get_or numbers k 0) where
+    pub turn-listed : occurs n list ≡ true → ids_text extended (without list (take k numbers)) ≡ ids_text extended (without list (take (k + 1) numbers))
+    turn-listed e =
+        let front = without list (take k numbers) in
+        ap (ids_text extended) (sym (append-nil front) ∙ ap (λ (l : List ℕ). front ++ l) (sym (without-listed list n e)) ∙ ap (λ (m : ℕ). front ++ without list (m ∷ [])) here ∙ without-turn)
+
+    pub turn-other : occurs n list ≡ false → ids_text extended (without list (take k numbers)) ++ id_text extended n ≡ ids_text extended (without list (take (k + 1) numbers))
+    turn-other e =
+        let front = without list (take k numbers) in
+        ap (λ (l : List ℕ). ids_text extended front ++ l) (id-alone extended n)
+        ∙ sym (ids-join extended front (n ∷ []))
+        ∙ ap (ids_text extended) (ap (λ (l : List ℕ). front ++ l) (sym (without_other list n e)) ∙ ap (λ (m : ℕ). front ++ without list (m ∷ [])) here ∙ without-turn)
+
+    pub turn-room : occurs n list ≡ false → length (without list (take k numbers)) + 1 ≤ length (without list numbers)
+    turn-room e = omega (arith, without-part, ap (λ (m : ℕ). length (without list (m ∷ []))) here, ap length (without_other list n e))
 
 -- ---- how many they are
 -- how often a number stands among others

@@ -2,34 +2,35 @@
 use mathlib.Core.Path.{◌≡◌, refl}
 use mathlib.Core.Bool.{true, false}
 use mathlib.Core.List.{[], ◌∷◌}
+use Rattle.std.specs.Prelude.{Some, None, Ok, Err}
 use Rattle.laws.specs.Ascii.{ascii}
 use Rattle.text.specs.Decimal.{digits_of, decimal}
 use Rattle.filter_report.specs.Line.{is_blank, ends, closes, unblanked, digit_of, number_from, number_of, word_of, line_of}
 use Rattle.filter_report.specs.Lines.{lines_of, found_from, found_in}
 use Rattle.filter_report.specs.Faults.{printed, shortened, shown_of, fault_text}
 use Rattle.filter_report.specs.Text.{filter_text, text_of}
-use Rattle.filter_report.specs.declared.line.Line.TheVariants.{Nothing, Identifier, Above, NotANumber}
+use Rattle.filter_report.specs.declared.line.Fault.TheVariants.{Above, NotANumber}
 
 pub lines-worked :
-    (line_of 0x7FF false (ascii "0x7fF") ≡ Identifier 0x7FF)
-    × (line_of 0x7FF false (ascii " 260 # 0x104") ≡ Identifier 260)
-    × (line_of 0x7FF false (ascii "2048") ≡ Above)
-    × (line_of 0x7FF false (ascii "0x") ≡ NotANumber)
-    × (line_of 0x7FF false (ascii "12 3") ≡ NotANumber)
-    × (line_of 0x7FF false (ascii "12A") ≡ NotANumber)
-    × (line_of 0x7FF false (ascii "123#DEADBEEF") ≡ NotANumber)
-    × (line_of 0x7FF false (ascii "\t# none") ≡ Nothing)
+    (line_of 0x7FF false (ascii "0x7fF") ≡ Ok (Some 0x7FF))
+    × (line_of 0x7FF false (ascii " 260 # 0x104") ≡ Ok (Some 260))
+    × (line_of 0x7FF false (ascii "2048") ≡ Err Above)
+    × (line_of 0x7FF false (ascii "0x") ≡ Err NotANumber)
+    × (line_of 0x7FF false (ascii "12 3") ≡ Err NotANumber)
+    × (line_of 0x7FF false (ascii "12A") ≡ Err NotANumber)
+    × (line_of 0x7FF false (ascii "123#DEADBEEF") ≡ Err NotANumber)
+    × (line_of 0x7FF false (ascii "\t# none") ≡ Ok None)
 unfolding is_blank ends closes unblanked digit_of number_from number_of word_of line_of
 lines-worked = (refl, refl, refl, refl, refl, refl, refl, refl)
 
 -- with `hex`
 pub hex-lines-worked :
-    (line_of 0x7FF true (ascii "123#DEADBEEF") ≡ Identifier 0x123)
-    × (line_of 0x7FF true (ascii "0x123##1DE") ≡ Identifier 0x123)
-    × (line_of 0x7FF true (ascii "12a # the pump") ≡ Identifier 0x12A)
-    × (line_of 0x7FF true (ascii "800") ≡ Above)
-    × (line_of 0x7FF true (ascii "#DEADBEEF") ≡ Nothing)
-    × (line_of 0x7FF true (ascii "can0 123") ≡ NotANumber)
+    (line_of 0x7FF true (ascii "123#DEADBEEF") ≡ Ok (Some 0x123))
+    × (line_of 0x7FF true (ascii "0x123##1DE") ≡ Ok (Some 0x123))
+    × (line_of 0x7FF true (ascii "12a # the pump") ≡ Ok (Some 0x12A))
+    × (line_of 0x7FF true (ascii "800") ≡ Err Above)
+    × (line_of 0x7FF true (ascii "#DEADBEEF") ≡ Ok None)
+    × (line_of 0x7FF true (ascii "can0 123") ≡ Err NotANumber)
 unfolding is_blank ends closes unblanked digit_of number_from number_of word_of line_of
 hex-lines-worked = (refl, refl, refl, refl, refl, refl)
 

@@ -4,6 +4,8 @@ use Rattle.std.specs.Prelude.{ℕ, Bool, true, false, cond, List, [], ◌∷◌,
 use Rattle.laws.specs.Ascii.{ascii}
 use Rattle.text.specs.Decimal.{decimal}
 use Rattle.filter_report.specs.Line.{unblanked}
+use Rattle.filter_report.specs.declared.line.Fault.{Fault}
+use Rattle.filter_report.specs.declared.line.Fault.TheVariants.{Above, NotANumber}
 
 -- from a space to `~`
 abbrev pub is_printable : ℕ → Bool
@@ -35,6 +37,11 @@ above_text true = ascii "\" is above 0x1FFFFFFF, the largest extended identifier
 abbrev pub wrong_text : Bool → List ℕ
 wrong_text false = ascii "\" is not a number (hexadecimal needs 0x, or --hex)\n"
 wrong_text true = ascii "\" is not a hexadecimal number\n"
+
+-- by what is wrong
+abbrev pub fault_said : Bool → Bool → Fault → List ℕ
+fault_said extended hex Above = above_text extended
+fault_said extended hex NotANumber = wrong_text hex
 
 unfoldable pub fault_text : ℕ → List ℕ → List ℕ → List ℕ
 fault_text k line fault = line_text ++ (decimal k ++ (quote_text ++ (shown_of line ++ fault)))

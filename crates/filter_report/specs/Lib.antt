@@ -5,5 +5,4 @@ pub mod Hex
 pub mod Listed
 pub mod Through
 pub mod Text
-pub mod Page
 pub mod Parts

@@ -1,9 +1,9 @@
 -- What a line of a list says: an identifier, behind `0x` in hexadecimal and else in decimal, or with `hex` in hexadecimal too, with blanks around it; from `#` on, a
 -- remark. Each number below 128 that is compared with is a character.
 -- Source: request #102, "a list of 32-bit numbers of one kind"; docs/FORMATS.md, "Lists".
-use Rattle.std.specs.Prelude.{ℕ, ◌+◌, ◌-◌, ◌*◌, Bool, true, false, cond, List, [], ◌∷◌, eqb, ltb, leb, get_or, drop}
-use Rattle.filter_report.specs.declared.line.Line.{Line}
-use Rattle.filter_report.specs.declared.line.Line.TheVariants.{Nothing, Identifier, Above, NotANumber}
+use Rattle.std.specs.Prelude.{ℕ, ◌+◌, ◌-◌, ◌*◌, Bool, true, false, cond, List, [], ◌∷◌, eqb, ltb, leb, get_or, drop, Option, Some, None, Result, Ok, Err}
+use Rattle.filter_report.specs.declared.line.Fault.{Fault}
+use Rattle.filter_report.specs.declared.line.Fault.TheVariants.{Above, NotANumber}
 
 -- a space, a tab, a carriage return
 unfoldable pub is_blank : ℕ → Bool
@@ -37,26 +37,31 @@ abbrev pub base_of : Bool → ℕ
 base_of false = 10
 base_of true = 16
 
-abbrev pub judged : ℕ → ℕ → Line
-judged limit n = cond (leb n limit) (Identifier n) Above
+abbrev pub judged : ℕ → ℕ → Result ℕ Fault
+judged limit n = cond (leb n limit) (Ok n) (Err Above)
 
 -- digits behind those that make n, up to where the number ends
-unfoldable pub number_from : ℕ → Bool → Bool → ℕ → List ℕ → Line
+unfoldable pub number_from : ℕ → Bool → Bool → ℕ → List ℕ → Result ℕ Fault
 number_from limit hex sixteen n [] = judged limit n
 number_from limit hex sixteen n (c ∷ line) =
     cond (ltb (digit_of c) (base_of sixteen)) (number_from limit hex sixteen (base_of sixteen * n + digit_of c) line)
-    (cond (closes hex (c ∷ line)) (judged limit n) NotANumber)
+    (cond (closes hex (c ∷ line)) (judged limit n) (Err NotANumber))
 
 -- there is at least one digit
-unfoldable pub number_of : ℕ → Bool → Bool → List ℕ → Line
-number_of limit hex sixteen line = cond (ltb (digit_of (get_or line 0 0)) (base_of sixteen)) (number_from limit hex sixteen 0 line) NotANumber
+unfoldable pub number_of : ℕ → Bool → Bool → List ℕ → Result ℕ Fault
+number_of limit hex sixteen line = cond (ltb (digit_of (get_or line 0 0)) (base_of sixteen)) (number_from limit hex sixteen 0 line) (Err NotANumber)
 
 -- `0x`
 abbrev pub is_hex : List ℕ → Bool
 is_hex line = cond (eqb (get_or line 0 0) 48) (eqb (get_or line 1 0) 120) false
 
-unfoldable pub word_of : ℕ → Bool → List ℕ → Line
+unfoldable pub word_of : ℕ → Bool → List ℕ → Result ℕ Fault
 word_of limit hex line = cond (is_hex line) (number_of limit hex true (drop 2 line)) (number_of limit hex hex line)
 
-unfoldable pub line_of : ℕ → Bool → List ℕ → Line
-line_of limit hex line = cond (ends line) Nothing (word_of limit hex (unblanked line))
+-- an identifier that a line has
+abbrev pub some_of : Result ℕ Fault → Result (Option ℕ) Fault
+some_of (Ok n) = Ok (Some n)
+some_of (Err fault) = Err fault
+
+unfoldable pub line_of : ℕ → Bool → List ℕ → Result (Option ℕ) Fault
+line_of limit hex line = cond (ends line) (Ok None) (some_of (word_of limit hex (unblanked line)))

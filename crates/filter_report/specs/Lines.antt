@@ -1,9 +1,9 @@
 -- What a text says, line by line: its identifiers in order, or the first line at fault, with its number, counted from 1.
 -- Source: request #102; docs/FORMATS.md, "Lists".
-use Rattle.std.specs.Prelude.{ℕ, suc, Bool, cond, List, [], ◌∷◌, eqb}
+use Rattle.std.specs.Prelude.{ℕ, suc, Bool, cond, List, [], ◌∷◌, eqb, Option, Some, None, Result, Ok, Err}
 use Rattle.filter_report.specs.Line.{line_of}
-use Rattle.filter_report.specs.declared.line.Line.{Line}
-use Rattle.filter_report.specs.declared.line.Line.TheVariants.{Nothing, Identifier, Above, NotANumber}
+use Rattle.filter_report.specs.declared.line.Fault.{Fault}
+use Rattle.filter_report.specs.declared.line.Fault.TheVariants.{Above, NotANumber}
 
 -- the parts between newlines
 abbrev pub onto : ℕ → List (List ℕ) → List (List ℕ)
@@ -26,11 +26,11 @@ with n (above_at k line) = above_at k line
 with n (wrong_at k line) = wrong_at k line
 
 -- the line of number k, what it says, and what is found behind it
-abbrev pub found_by : ℕ → List ℕ → Line → Found → Found
-found_by k line Nothing rest = rest
-found_by k line (Identifier n) rest = with n rest
-found_by k line Above rest = above_at k line
-found_by k line NotANumber rest = wrong_at k line
+abbrev pub found_by : ℕ → List ℕ → Result (Option ℕ) Fault → Found → Found
+found_by k line (Ok None) rest = rest
+found_by k line (Ok (Some n)) rest = with n rest
+found_by k line (Err Above) rest = above_at k line
+found_by k line (Err NotANumber) rest = wrong_at k line
 
 unfoldable pub found_from : ℕ → Bool → ℕ → List (List ℕ) → Found
 found_from limit hex k [] = listed []

@@ -1,89 +1,81 @@
 // The text about a line at fault.
-ghost use Rattle.std.specs.Prelude.{◌≡◌, ◌+◌, ◌≤◌, length, drop};
-ghost use Rattle.filter_report.specs.Faults.{printed, shown_of, fault_text, above_text, wrong_text};
-ghost use Rattle.filter_report.specs.Page.{Put};
+ghost use Rattle.std.specs.Prelude.{◌≡◌, ◌+◌, ◌≤◌, ◌++◌, length};
+ghost use Rattle.std.specs.List.{prefix_len};
+ghost use Rattle.filter_report.specs.Faults.{is_printable, printed, shown_of, fault_text, fault_said};
 
-use crate::{line, pieces};
+use crate::line::{Fault, Format, unblanked};
+use text::Page;
 
 // No more characters of a line are shown.
 const MOST_SHOWN: usize = 32;
 
-// Where the printable characters from a place on end.
-fn printed_end(line: &[u8], from: usize) -> usize
-    requires { from ≤ length line.now }
-    ensures { result ≡ from + length (printed (drop from line.now)) }
+// A line at fault, and its number.
+#[derive(Clone, Copy, Debug, PartialEq, Eq)]
+pub struct FaultyLine<'a> {
+    pub fault: Fault,
+    pub number: usize,
+    pub line: &'a [u8],
+    ghost few: { number ≤ 65537 },
+}
+
+fn is_printable(character: u8) -> bool
+    ensures { result ≡ is_printable character }
 {
-    let mut i = from;
-    while i < line.len() {
-        if line[i] < 32 {
-            return i;
+    matches!(character, b' '..=b'~')
+}
+
+// How many printable characters stand in front.
+fn printable(line: &[u8]) -> usize
+    ensures value { result ≡ prefix_len is_printable line.now }
+    ensures within { result ≤ length line.now }
+{
+    line.iter().take_while(|c| is_printable(**c)).count()
+}
+
+fn printed(line: &[u8]) -> &[u8]
+    ensures { result.now ≡ printed line.now }
+{
+    &line[..printable(line)]
+}
+
+// What a line shows.
+fn put_shown(line: &[u8], page: &mut Page<512>)
+    requires { length page.old + 34 ≤ 512 }
+    ensures { page.new ≡ page.old ++ shown_of line.now }
+{
+    let shown = printed(unblanked(line));
+    if shown.len() <= MOST_SHOWN {
+        page.add(shown);
+    } else {
+        page.add(&shown[..MOST_SHOWN]);
+        page.add(b"..");
+    }
+}
+
+// What is wrong, behind what a line shows.
+fn said(format: Format, fault: Fault) -> &'static [u8]
+    ensures { result.now ≡ fault_said format.extended format.hex fault }
+{
+    match fault {
+        Fault::Above if format.extended => {
+            b"\" is above 0x1FFFFFFF, the largest extended identifier\n"
         }
-        if line[i] > 126 {
-            return i;
-        }
-        i += 1;
+        Fault::Above => b"\" is above 0x7FF, the largest standard identifier\n",
+        Fault::NotANumber if format.hex => b"\" is not a hexadecimal number\n",
+        Fault::NotANumber => b"\" is not a number (hexadecimal needs 0x, or --hex)\n",
     }
-    i
 }
 
-// What a line shows at a place, and the place after it.
-fn put_shown(line: &[u8], page: &mut [u8], at: usize) -> usize
-    requires { at + 34 ≤ length page.old }
-    ensures { Put at (shown_of line.now) page.old page.new result }
-{
-    let from = line::behind_blanks(line);
-    let end = printed_end(line, from);
-    if end - from <= MOST_SHOWN {
-        return pieces::put_piece(page, at, &line[from..end]);
+impl FaultyLine<'_> {
+    pub(crate) fn text(&self, format: Format) -> Page<512>
+        ensures { result ≡ fault_text self.now.number self.now.line.now (fault_said format.extended format.hex self.now.fault) }
+    {
+        let mut page = Page::new();
+        page.add(b"line ");
+        page.add_decimal(self.number);
+        page.add(b": \"");
+        put_shown(self.line, &mut page);
+        page.add(said(format, self.fault));
+        page
     }
-    let cut = from + MOST_SHOWN;
-    let next = pieces::put_piece(page, at, &line[from..cut]);
-    pieces::put_piece(page, next, b"..")
-}
-
-// The text of a line at fault into the front of the page, and its length.
-fn put_fault(number: usize, line: &[u8], fault: &[u8], page: &mut [u8]) -> usize
-    requires { (number ≤ 65537) × (length fault.now ≤ 100) × (512 ≤ length page.old) }
-    ensures { Put 0 (fault_text number line.now fault.now) page.old page.new result × (result ≤ 512) }
-{
-    let first = pieces::put_piece(page, 0, b"line ");
-    let second = pieces::put_number(page, first, number);
-    let third = pieces::put_piece(page, second, b": \"");
-    let fourth = put_shown(line, page, third);
-    pieces::put_piece(page, fourth, fault)
-}
-
-pub(crate) fn put_above(extended: bool, number: usize, line: &[u8], page: &mut [u8]) -> usize
-    requires { (number ≤ 65537) × (512 ≤ length page.old) }
-    ensures { Put 0 (fault_text number line.now (above_text extended)) page.old page.new result × (result ≤ 512) }
-{
-    if extended {
-        return put_fault(
-            number,
-            line,
-            b"\" is above 0x1FFFFFFF, the largest extended identifier\n",
-            page,
-        );
-    }
-    put_fault(
-        number,
-        line,
-        b"\" is above 0x7FF, the largest standard identifier\n",
-        page,
-    )
-}
-
-pub(crate) fn put_wrong(hex: bool, number: usize, line: &[u8], page: &mut [u8]) -> usize
-    requires { (number ≤ 65537) × (512 ≤ length page.old) }
-    ensures { Put 0 (fault_text number line.now (wrong_text hex)) page.old page.new result × (result ≤ 512) }
-{
-    if hex {
-        return put_fault(number, line, b"\" is not a hexadecimal number\n", page);
-    }
-    put_fault(
-        number,
-        line,
-        b"\" is not a number (hexadecimal needs 0x, or --hex)\n",
-        page,
-    )
 }

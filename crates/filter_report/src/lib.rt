@@ -8,133 +8,103 @@ mod named;
 mod pieces;
 mod through;
 
-ghost use Rattle.std.specs.Prelude.{◌≡◌, ◌+◌, ◌^◌, ◌<◌, ◌≤◌, length};
+ghost use Rattle.std.specs.Prelude.{◌≡◌, ◌+◌, ◌^◌, ◌<◌, ◌≤◌, ◌++◌, length};
 ghost use Rattle.laws.specs.Laid.{laying, written};
 ghost use Rattle.text.specs.Laying.{laying_said};
 ghost use Rattle.identifiers.specs.Limits.{width_of, limit_of};
 ghost use Rattle.filter_list.specs.Pattern.{pattern_of};
 ghost use Rattle.filter_list.specs.Answers.{first_above, through_of, registers_of_list};
 ghost use Rattle.filter_report.specs.Lines.{found_in};
-ghost use Rattle.filter_report.specs.Text.{text_limit, registers_text, lines_text, filter_text, list_text, found_text, text_of};
-ghost use Rattle.filter_report.specs.Page.{Put};
-ghost use Rattle.filter_report.specs.Parts.{through_in};
+ghost use Rattle.filter_report.specs.Text.{text_limit, registers_text, lines_text, list_text, found_text, text_of};
 
-use filter_list::Listing;
-use lines::Reading;
-use text::Laying;
+use filter_list::Listed;
+use line::Format;
+use refusals::Refusal;
+use text::Page;
+use through::Passed;
 
 // A longer text is not read.
 pub const TEXT_LIMIT: usize = 65536;
 
-fn through_in(answer: Listing) -> u32
-    ensures { (result ≡ through_in answer) × (result < 2 ^ 32) }
+// A pattern and its registers, a line each.
+fn put_registers(pattern: &[u8], registers: &[u8], page: &mut Page<512>)
+    requires { (length pattern.now ≤ 29) × (length registers.now ≤ 8) × (length page.old + 65 ≤ 512) }
+    ensures { page.new ≡ page.old ++ registers_text pattern.now registers.now }
 {
-    match answer {
-        Listing::Made(through) => through,
-        Listing::Refused(_) => 0,
-    }
+    page.add(b"pattern ");
+    page.add(pattern);
+    page.add(b"\nregisters ");
+    pieces::put_hex(registers, page);
+    page.add(b"\n");
 }
 
-// A pattern and its registers, a line each, at a place, and the place after them.
-fn put_registers(pattern: &[u8], registers: &[u8], page: &mut [u8], at: usize) -> usize
-    requires { (length pattern.now ≤ 29) × (length registers.now ≤ 8) × (at + 65 ≤ length page.old) }
-    ensures { Put at (registers_text pattern.now registers.now) page.old page.new result × (result ≤ at + 65) }
-{
-    let first = pieces::put_piece(page, at, b"pattern ");
-    let second = pieces::put_piece(page, first, pattern);
-    let third = pieces::put_piece(page, second, b"\nregisters ");
-    let fourth = pieces::put_hex(page, third, registers);
-    pieces::put_piece(page, fourth, b"\n")
-}
-
-// All lines of a filter into the front of the page, and their length.
-fn put_lines(
-    extended: bool,
-    list: &[u32],
-    pattern: &[u8],
-    registers: &[u8],
-    through: usize,
-    page: &mut [u8],
-) -> usize
+// All lines of a list's filter.
+fn lines_text(extended: bool, list: &[u32], pattern: &[u8], listed: Listed) -> Page<512>
     requires { (length list.now ≤ 32768)
         × (first_above (limit_of extended) list.now ≡ length list.now)
         × (pattern.now ≡ pattern_of (width_of extended) list.now)
-        × (length registers.now ≤ 8)
-        × (through ≡ through_of extended (registers_of_list extended list.now))
-        × (512 ≤ length page.old) }
-    ensures { Put 0 (lines_text extended list.now pattern.now registers.now through) page.old page.new result × (result ≤ 512) }
+        × (listed.through ≡ through_of extended (registers_of_list extended list.now)) }
+    ensures { result ≡ lines_text extended list.now pattern.now listed.registers listed.through }
 {
-    let first = named::put_listed(extended, list, page, 0);
-    let second = put_registers(pattern, registers, page, first);
-    through::put_through(extended, pattern, list, through, page, second)
+    let through = listed.through as usize;
+    let mut page = Page::new();
+    named::put_listed(extended, list, &mut page);
+    put_registers(pattern, &listed.registers, &mut page);
+    Passed { pattern, through }.put_through(extended, list, &mut page);
+    page
 }
 
-// The text of a list's filter into the front of the page, and its length.
-fn put_filter(extended: bool, list: &[u32], page: &mut [u8]) -> usize
-    requires { (0 < length list.now)
-        × (length list.now ≤ 32768)
-        × (first_above (limit_of extended) list.now ≡ length list.now)
-        × (512 ≤ length page.old) }
-    ensures { Put 0 (filter_text extended list.now) page.old page.new result × (result ≤ 512) }
+// The text of a list within its limit: such a list is refused only where it is empty.
+fn list_text(extended: bool, list: &[u32]) -> Page<512>
+    requires { (length list.now ≤ 32768) × (first_above (limit_of extended) list.now ≡ length list.now) }
+    ensures { result ≡ list_text extended list.now }
 {
     let mut pattern = [0u8; 29];
-    let listed = filter_list::from_list(extended, list, &mut pattern);
-    let answer = listed.answer;
-    let registers = listed.registers;
-    let through = through_in(answer);
-    put_lines(
-        extended,
-        list,
-        &pattern[..identifiers::width(extended)],
-        &registers,
-        through as usize,
-        page,
-    )
-}
-
-fn put_list(extended: bool, list: &[u32], page: &mut [u8]) -> usize
-    requires { (length list.now ≤ 32768) × (first_above (limit_of extended) list.now ≡ length list.now) × (512 ≤ length page.old) }
-    ensures { Put 0 (list_text extended list.now) page.old page.new result × (result ≤ 512) }
-{
-    if list.len() == 0 {
-        return pieces::put_piece(page, 0, b"no identifiers\n");
+    match filter_list::from_list(extended, list, &mut pattern) {
+        Ok(listed) => lines_text(
+            extended,
+            list,
+            &pattern[..identifiers::width(extended)],
+            listed,
+        ),
+        Err(_) => plain_text(b"no identifiers\n"),
     }
-    put_filter(extended, list, page)
 }
 
-// The text of a list that is not too long into the front of the page, and its length.
-fn put_read(extended: bool, hex: bool, text: &[u8], page: &mut [u8]) -> usize
-    requires { (length text.now ≤ text_limit) × (512 ≤ length page.old) }
-    ensures { Put 0 (found_text extended hex (found_in (limit_of extended) hex text.now)) page.old page.new result × (result ≤ 512) }
+fn plain_text(text: &[u8]) -> Page<512>
+    requires { length text.now ≤ 512 }
+    ensures { result ≡ text.now }
+{
+    let mut page = Page::new();
+    page.add(text);
+    page
+}
+
+// The text of a list that is not too long.
+fn read_text(format: Format, text: &[u8]) -> Page<512>
+    requires { length text.now ≤ text_limit }
+    ensures { result ≡ found_text format.extended format.hex (found_in (limit_of format.extended) format.hex text.now) }
 {
     let mut list = [0u32; 32768];
-    let reading = lines::read_list(text, hex, identifiers::limit(extended), &mut list);
-    match reading {
-        Reading::All(count) => put_list(extended, &list[..count], page),
-        Reading::AboveAt(number, from, end) => {
-            faults::put_above(extended, number, &text[from..end], page)
-        }
-        Reading::NotANumberAt(number, from, end) => {
-            faults::put_wrong(hex, number, &text[from..end], page)
-        }
+    match lines::read_list(format, text, &mut list) {
+        Ok(count) => list_text(format.extended, &list[..count]),
+        Err(faulty) => faulty.text(format),
     }
 }
 
-fn put_whole(extended: bool, hex: bool, text: &[u8], page: &mut [u8]) -> usize
-    requires { 512 ≤ length page.old }
-    ensures { Put 0 (text_of extended hex text.now) page.old page.new result × (result ≤ 512) }
+fn text_of(format: Format, text: &[u8]) -> Page<512>
+    ensures { result ≡ text_of format.extended format.hex text.now }
 {
     if text.len() > TEXT_LIMIT {
-        return pieces::put_piece(page, 0, b"longer than 65536 bytes\n");
+        return plain_text(b"longer than 65536 bytes\n");
     }
-    put_read(extended, hex, text, page)
+    read_text(format, text)
 }
 
-pub fn filter_text(extended: bool, hex: bool, text: &[u8], out: &mut [u8]) -> Laying
+pub fn filter_text(extended: bool, hex: bool, text: &[u8], out: &mut [u8]) -> Result<usize, Refusal>
     ensures result_value { laying_said result ≡ laying (text_of extended hex text.now) out.old }
     ensures out_after { out.new ≡ written (laying (text_of extended hex text.now) out.old) (text_of extended hex text.now) out.old }
 {
-    let mut page = [0u8; 512];
-    let length = put_whole(extended, hex, text, &mut page);
-    text::lay(&page[..length], out)
+    let page = text_of(Format { extended, hex }, text);
+    text::lay(page.as_slice(), out)
 }

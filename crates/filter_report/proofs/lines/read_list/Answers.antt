@@ -1,71 +1,51 @@
--- `filter_report::lines::read_list` meets its contract: at each turn the lines behind, and the identifiers in front of them, make what is found; and each identifier has two characters of the text. Assumes nothing.
-use Prim.Native.Nat.{◌≤◌}
-use mathlib.Core.Path.{refl, sym, ap, ◌∙◌}
-use lib.ListN.{length, take}
-use native.Mathlib.Omega.{arith}
-use Rattle.filter_report.specs.Lines.{found_in}
-use Rattle.filter_report.specs.declared.lines.Reading.{Reading}
-use Rattle.filter_report.specs.Parts.{reading_found}
-use Rattle.filter_report.proofs.Split.{found-start, found-end, fault-within, identifiers-fit, turn-kept, turn-fault, ends-within}
+-- `filter_report::lines::read_list` meets its contract: what is found stands in the front of the list, or is found in the lines that are left. Assumes nothing.
+use Rattle.std.proofs.Common.{arith, rules, of_calls, refl, ◌<◌, ℕ, ◌∙◌, sym, ap, length, length-set}
+use Rattle.std.specs.Prelude.{Ok, Some}
+use Rattle.std.proofs.lemmas.Iterator.Splits.{YieldsList-from_slice_split}
+use borrow.Author.Tests.{tests}
+use lib.Dec.{eqb}
+use Rattle.identifiers.specs.Limits.{limit_of}
+use Rattle.filter_report.proofs.Split.{read_start, read_nothing, read_room, read_identifier, read_fault, read_few, line_taken, lines_over, count_fits}
 use Rattle.filter_report.proofs.lines.read_list.Goals as goal
 
-pub loop-at-init : goal.loop-at-init
-loop-at-init c =
+pub loop-line-init : goal.loop-line-init
+loop-line-init c =
     let args = c.args in
-    (found-start args.limit args.hex args.text.now, omega arith, omega arith, omega arith, refl)
+    (search of_calls, tt, (_, YieldsList-from_slice_split _ (λ b. eqb b 10) args.text.now (search rules) (search rules) (search rules) (λ x b q k. search (rules, tests)), read_start (limit_of args.format.extended) args.format.hex args.text.now args.list.now), refl)
 
-pub slice_bounds-read_line-end : goal.slice_bounds-read_line-end
-slice_bounds-read_line-end c =
-    omega (arith, (ends-within c.loop-at.at c.line_end-end.result c.args.text.now (omega arith) c.line_end-end.ensures).1)
+pub overflow_add-number : goal.overflow_add-number
+overflow_add-number c =
+    let left = line_taken {t = c.next.new.self} c.in-Some.line c.loop-line.invariant.2 c.in-Some.ensures.steps in
+    omega (arith, read_few left.2, c.requires.1)
 
-pub returns-then-is_fault : goal.returns-then-is_fault
-returns-then-is_fault c =
-    let loop = c.loop-at in
-    let args = c.args in
-    let end = c.line_end-end.result in
-    let line = c.read_line-line.result in
-    let within = ends-within loop.at end args.text.now (omega arith) c.line_end-end.ensures in
-    let few : loop.number ≤ 65537 = omega (arith, loop.invariant.3, loop.invariant.2, c.requires.1, c.loop-at-test.true) in (
-      ap (λ (r : Reading). reading_found r args.text.now loop.list) c.fault_at.ensures
-          ∙ turn-fault args.limit args.hex loop.number loop.at end args.text.now line (omega arith) c.line_end-end.ensures c.read_line-line.ensures
-          (take loop.count loop.list) loop.list (found_in args.limit args.hex args.text.now) loop.invariant.0 (sym c.is_fault.ensures ∙ c.if-is_fault.true),
-      rw c.fault_at.ensures
-          (fault-within loop.number loop.at end (length args.text.now) (length loop.list) line (record { few = few; rising = within.0; inside = within.1 })),
-    )
+pub bounds-list-count : goal.bounds-list-count
+bounds-list-count c =
+    let left = line_taken {t = c.next.new.self} c.in-Some.line c.loop-line.invariant.2 c.in-Some.ensures.steps in
+    let read = sym (c.in-Ok-Some.is ∙ ap Ok c.in-Ok-Some.field-0-is) ∙ c.read_line.ensures in
+    omega (arith, read_room left.2 c.in-Ok-Some.id read, c.loop-line.invariant.3, c.requires.0)
 
-pub keep-count-requires : goal.keep-count-requires
-keep-count-requires c =
-    let loop = c.loop-at in
-    let args = c.args in
-    let end = c.line_end-end.result in
-    let ended = c.line_end-end.ensures in
-    let fit = identifiers-fit args.limit args.hex loop.number loop.at end args.text.now c.read_line-line.result (omega arith) ended c.read_line-line.ensures in
-    let within = ends-within loop.at end args.text.now (omega arith) ended in
-    omega (arith, fit.0, fit.1, within.0, within.1, loop.invariant.1, loop.invariant.4, c.requires.0)
+pub loop-line-preserved-in-Ok-Some : goal.loop-line-preserved-in-Ok-Some
+loop-line-preserved-in-Ok-Some c =
+    let left = line_taken {t = c.next.new.self} c.in-Some.line c.loop-line.invariant.2 c.in-Some.ensures.steps in
+    let read = sym (c.in-Ok-Some.is ∙ ap Ok c.in-Ok-Some.field-0-is) ∙ c.read_line.ensures in
+    let room : c.loop-line.count < length c.loop-line.list = omega (arith, read_room left.2 c.in-Ok-Some.id read, c.loop-line.invariant.3, c.requires.0) in
+    (search rules, tt, (left.0, left.1, read_identifier left.2 _ (ap (λ (n : ℕ). Ok (Some n)) c.in-Ok-Some.id-is ∙ read) room), length-set c.loop-line.list c.loop-line.count _ ∙ c.loop-line.invariant.3)
 
-pub loop-at-preserved : goal.loop-at-preserved
-loop-at-preserved c =
-    let loop = c.loop-at in
-    let args = c.args in
-    let end = c.line_end-end.result in
-    let ended = c.line_end-end.ensures in
-    let line = c.read_line-line.result in
-    let read = c.read_line-line.ensures in
-    let kept = c.keep-count in
-    let fit = identifiers-fit args.limit args.hex loop.number loop.at end args.text.now line (omega arith) ended read in
-    let within = ends-within loop.at end args.text.now (omega arith) ended in (
-      turn-kept args.limit args.hex loop.number loop.at end args.text.now line (omega arith) ended read
-          (take loop.count loop.list) _ (found_in args.limit args.hex args.text.now) loop.invariant.0 (sym c.is_fault.ensures ∙ c.if-is_fault.false) kept.ensures.0,
-      omega (arith, fit.0, fit.1, within.0, kept.ensures.1, loop.invariant.1),
-      omega (arith, within.1),
-      omega (arith, within.0, loop.invariant.3),
-      kept.auto.list ∙ loop.invariant.4,
-    )
+pub loop-line-preserved : goal.loop-line-preserved
+loop-line-preserved c =
+    let left = line_taken {t = c.next.new.self} c.in-Some.line c.loop-line.invariant.2 c.in-Some.ensures.steps in
+    let read = sym (c.in-Ok-None.is ∙ ap Ok c.in-Ok-None.field-0-is) ∙ c.read_line.ensures in
+    (search rules, tt, (left.0, left.1, read_nothing left.2 read), c.loop-line.invariant.3)
+
+pub invariant_of-result : goal.invariant_of-result
+invariant_of-result c =
+    let left = line_taken {t = c.next.new.self} c.in-Some.line c.loop-line.invariant.2 c.in-Some.ensures.steps in
+    record { few = omega (arith, read_few left.2, c.requires.1) }
+
+pub returns-in-Err : goal.returns-in-Err
+returns-in-Err c =
+    let left = line_taken {t = c.next.new.self} c.in-Some.line c.loop-line.invariant.2 c.in-Some.ensures.steps in
+    (read_fault left.2 _ (sym c.in-Err.is ∙ c.read_line.ensures), tt)
 
 pub returns : goal.returns
-returns c =
-    let loop = c.loop-at in
-    let args = c.args in (
-      sym (loop.invariant.0 ∙ found-end args.limit args.hex loop.number (take loop.count loop.list) args.text.now loop.at c.loop-at-test.false),
-      omega (arith, loop.invariant.1, loop.invariant.2, c.requires.0, loop.invariant.4),
-    )
+returns c = (lines_over c.loop-line.invariant.2 c.in-None.ensures.steps, count_fits c.loop-line.invariant.2.2 (omega (arith, c.requires.0, c.loop-line.invariant.3)))

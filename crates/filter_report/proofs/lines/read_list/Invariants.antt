@@ -1,15 +1,13 @@
--- `filter_report::lines::read_list` meets its contract: at each turn the lines behind, and the identifiers in front of them, make what is found; and each identifier has two characters of the text. Assumes nothing.
-use Prim.Native.Nat.{◌+◌, ◌-◌, ◌*◌, ◌≤◌}
-use mathlib.Core.Path.{◌≡◌}
-use lib.ListN.{length, take}
-use Rattle.filter_report.specs.Lines.{found_from, found_in}
-use Rattle.filter_report.proofs.Split.{lines_from, behind}
+-- `filter_report::lines::read_list` meets its contract: what is found stands in the front of the list, or is found in the lines that are left. Assumes nothing.
+use Rattle.std.proofs.Common.{◌≡◌, List, ℕ, length}
+use Rattle.std.proofs.lemmas.Iterator.{YieldsList}
+use Rattle.identifiers.specs.Limits.{limit_of}
+use Rattle.filter_report.proofs.Split.{ReadUp}
 use Rattle.filter_report.proofs.lines.read_list.Given as goal
 
-abbrev pub invariant-loop-at : goal.invariant-loop-at
-invariant-loop-at l =
-    (found_in l.limit l.hex l.text ≡ behind (take l.count l.list) (found_from l.limit l.hex l.number (lines_from l.text l.at)))
-    × (2 * l.count ≤ l.at) × (l.at ≤ length l.text + 1) × (l.number ≤ l.at + 1) × (length l.list ≡ length l.initial.list)
-
-abbrev pub decreases-loop-at : goal.decreases-loop-at
-decreases-loop-at l = length l.text + 1 - l.at
+abbrev pub invariant-loop-line : goal.invariant-loop-line
+invariant-loop-line l =
+    (goal.iterator-loop-line).can_next l.line-iterator
+    × (goal.iterator-loop-line).is_finite l.line-iterator
+    × ((lines : List (List ℕ)) × YieldsList (goal.iterator-loop-line).next_gives (λ x. x.now) l.line-iterator lines × ReadUp (limit_of l.format.extended) l.format.hex l.text l.number l.count l.list lines)
+    × (length l.list ≡ length l.initial.list)

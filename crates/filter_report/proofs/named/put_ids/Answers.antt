@@ -1,22 +1,19 @@
 -- `filter_report::named::put_ids` meets its contract: at each turn one identifier more stands behind the others. Assumes nothing.
-use mathlib.Core.Path.{refl, sym, ◌∙◌}
-use native.Mathlib.Omega.{arith}
-use Rattle.filter_report.proofs.Page.{put_then, put-none, put-equal}
+use Rattle.std.proofs.Common.{arith}
+use Rattle.filter_report.proofs.Page.{empty, long, turn}
 use Rattle.filter_report.proofs.Ids.{ids-none, ids-first, ids-turn}
 use Rattle.filter_report.proofs.named.put_ids.Goals as goal
 
-pub loop-i-init : goal.loop-i-init
-loop-i-init c =
-    (omega arith, put-equal (sym (ids-none c.args.extended)) (put-none c.args.at c.args.page.now), refl)
+pub loop-id-init : goal.loop-id-init
+loop-id-init c = empty c.args.page.now _ (ids-none c.args.extended)
 
-pub put_id-next-requires : goal.put_id-next-requires
-put_id-next-requires c =
-    let loop = c.loop-i in
-    omega (arith, c.requires.0, c.requires.1, loop.invariant.1.behind, loop.invariant.2, ids-first c.args.extended c.args.list.now loop.i (omega (arith, c.requires.0)))
+pub put_id-requires : goal.put_id-requires
+put_id-requires c =
+    let loop = c.loop-id in
+    let first = ids-first c.args.extended c.args.ids.now loop.id-index (omega (arith, c.loop-id-test.true)) in
+    omega (arith, c.requires, c.loop-id-test.true, long c.args.page.now _ loop.page loop.invariant, first)
 
-pub loop-i-preserved : goal.loop-i-preserved
-loop-i-preserved c =
-    let put = c.put_id-next in
-    let loop = c.loop-i in
-    let turn = ids-turn c.args.extended c.args.list.now loop.i (omega (arith, c.requires.0, c.loop-i-test.true)) in
-    (omega arith, put-equal turn (put_then (omega (arith, c.requires.1)) loop.invariant.1 put.ensures), put.auto.page ∙ loop.invariant.2)
+pub loop-id-preserved : goal.loop-id-preserved
+loop-id-preserved c =
+    let loop = c.loop-id in
+    turn c.args.page.now _ loop.page _ c.put_id.new.page _ loop.invariant c.put_id.ensures (ids-turn c.args.extended c.args.ids.now loop.id-index c.loop-id-test.true)

@@ -12,5 +12,5 @@ returns-then-character-eq49 c = (split_one _ _ _ c.if-character-eq49.true, omega
 pub returns-then-k-half : goal.returns-then-k-half
 returns-then-k-half c = (split-low _ _ _ c.if-character-eq48.false c.if-character-eq49.false c.if-k-half.true, omega arith)
 
-pub returns : goal.returns
-returns c = (split-high _ _ _ c.if-character-eq48.false c.if-character-eq49.false c.if-k-half.false, omega arith)
+pub returns-else-k-half : goal.returns-else-k-half
+returns-else-k-half c = (split-high _ _ _ c.if-character-eq48.false c.if-character-eq49.false c.if-k-half.false, omega arith)
