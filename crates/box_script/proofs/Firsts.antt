@@ -27,9 +27,6 @@ module _ (limit : ℕ) (s : List ℕ) where
       ∙ ap (λ (b : Bool). leb (get_or s (at + 14 * i) 0) limit && b)
       (moved (n - (i + 1)) (n - (i + 1)) (at + 14 * i + 14) (at + 14 * (i + 1)) refl (omega arith))
 
-  pub firsts-start : (n at : ℕ) → firsts_within (n - 0) limit s (at + 14 * 0) ≡ firsts_within n limit s at
-  firsts-start n at = moved (n - 0) n (at + 14 * 0) at (omega arith) (omega arith)
-
   pub firsts_more : (n at i : ℕ) → i < n → get_or s (at + 14 * i) 0 ≤ limit
       → firsts_within (n - i) limit s (at + 14 * i) ≡ firsts_within (n - (i + 1)) limit s (at + 14 * (i + 1))
   firsts_more n at i h small = split n at i h ∙ rw (le-leb (get_or s (at + 14 * i) 0) limit small)
