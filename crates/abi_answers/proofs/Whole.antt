@@ -5,7 +5,7 @@ use mathlib.Core.List.{List, [], ◌∷◌}
 use lib.ListN.{length, replicate, length-replicate}
 use native.Mathlib.Omega.{arith}
 use borrow.Author.Tests.{eq-eqb, ne_eqb, le-leb}
-use Rattle.laws.specs.Said.{Said, refuses, gives}
+use Rattle.laws.specs.Said.{Said, refuses}
 use Rattle.laws.specs.Laid.{laying, written}
 use Rattle.laws.proofs.Copy.{copied-whole}
 use Rattle.abi_answers.specs.Answers.{answer_of, sized, delivering, delivery_leaves, laid_into}
@@ -33,8 +33,3 @@ unfolding laying written
 laid-whole n slice h =
     rw (le-leb (length slice) (length {A = ℕ} (replicate n 0)) (omega (arith, length-replicate {A = ℕ} n 0)))
     (copied-whole slice (replicate n 0) (omega (arith, length-replicate {A = ℕ} n 0)))
-
--- bytes for a slice of their own length are laid
-pub lays : (n : ℕ) (bytes out : List ℕ) → length bytes ≡ n → length out ≡ n → laying bytes out ≡ gives n
-unfolding laying
-lays n bytes out h k = rw (le-leb (length bytes) (length out) (omega arith)) (ap gives h)
