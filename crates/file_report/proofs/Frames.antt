@@ -1,5 +1,5 @@
 -- Turns of the loops over frames, by the rows at their indices, and the whole texts. Assumes nothing.
-use Prim.Native.Nat.{ℕ, ◌+◌, ◌-◌, ◌*◌, ◌≤◌, ◌<◌}
+use Prim.Native.Nat.{ℕ, ◌+◌, ◌-◌, ◌*◌, ◌^◌, ◌≤◌, ◌<◌}
 use mathlib.Core.Path.{◌≡◌, refl, sym, ap, ap₂, ◌∙◌}
 use mathlib.Core.Bool.{Bool, true, false, cond}
 use mir.Val.{bool_byte}
@@ -18,7 +18,9 @@ use Rattle.file_reading.specs.Reader.{read_of}
 use Rattle.file_reading.proofs.Format.{read-good}
 use Rattle.text.specs.Decimal.{decimal}
 use Rattle.text.specs.Put.{place_behind, put_at}
-use Rattle.text.proofs.Decimal.{decimal-long}
+use Rattle.text.specs.Page.{added}
+use Rattle.text.proofs.Decimal.{decimal-long, decimal-most}
+use Rattle.text.proofs.Pages.{added-fits}
 use Rattle.text.proofs.Put.{place-put, text-put}
 use Rattle.file_report.specs.Text.{any, line_of, lines_from, count_of, good_text, bad_text, read_text, text_of}
 use Rattle.file_report.specs.Held.{row_at, rows_in}
@@ -140,73 +142,26 @@ module _ (s : List ℕ) (sections : Sections) where
         ∙ set_then q 10 0 (front ++ decimal count) out last (omega (arith, good-end, room))
         ∙ ap (λ (l : List ℕ). laid 0 l out) whole
 
--- a refusal's text
-pub bad-long : (number place : ℕ) → length (bad_text number place) ≡ 8 + (length (decimal number) + (4 + (length (decimal place) + 1)))
+-- a refusal's text, composed on a page that has room for any two numbers
+pub bad-added : (number place : ℕ) (one two three four five : List ℕ) → number < 2 ^ 64 → place < 2 ^ 64
+    → one ≡ added 53 [] (ascii "refused ") → two ≡ added 53 one (decimal number) → three ≡ added 53 two (ascii " at ")
+    → four ≡ added 53 three (decimal place) → five ≡ added 53 four (ascii "\n") → five ≡ bad_text number place
 unfolding bad_text
-bad-long number place = simp length-append (omega arith)
-
--- "refused ", the number, " at ", the place and a newline, put one behind another
-module _ (number place p q t e : ℕ) (out one two three four : List ℕ) (room : length (bad_text number place) ≤ length out)
-    (ep : p ≡ place_behind 0 (ascii "refused ") out) (e1 : one ≡ put_at 0 (ascii "refused ") out)
-    (eq : q ≡ place_behind p (decimal number) one) (e2 : two ≡ put_at p (decimal number) one)
-    (et : t ≡ place_behind q (ascii " at ") two) (e3 : three ≡ put_at q (ascii " at ") two)
-    (ee : e ≡ place_behind t (decimal place) three) (e4 : four ≡ put_at t (decimal place) three) where
-  fit : 8 + (length (decimal number) + (4 + (length (decimal place) + 1))) ≤ length out
-  fit = omega (arith, room, bad-long number place)
-
-  first : (p ≡ 0 + 8) × (one ≡ laid 0 (ascii "refused ") out)
-  first =
-      let fits : 0 + 8 ≤ length out = omega (arith, fit) in
-      (place-put 0 p (ascii "refused ") out ep fits, text-put 0 (ascii "refused ") out one e1 fits)
-
-  first-long : length one ≡ length out
-  first-long = ap length first.1 ∙ length-laid 0 (ascii "refused ") out (omega (arith, fit))
-
-  second : (q ≡ p + length (decimal number)) × (two ≡ laid p (decimal number) one)
-  second =
-      let fits : p + length (decimal number) ≤ length one = omega (arith, fit, first.0, first-long) in
-      (place-put p q (decimal number) one eq fits, text-put p (decimal number) one two e2 fits)
-
-  second-long : length two ≡ length out
-  second-long = ap length second.1 ∙ length-laid p (decimal number) one (omega (arith, fit, first.0, first-long)) ∙ first-long
-
-  third : (t ≡ q + 4) × (three ≡ laid q (ascii " at ") two)
-  third =
-      let fits : q + 4 ≤ length two = omega (arith, fit, first.0, second.0, second-long) in
-      (place-put q t (ascii " at ") two et fits, text-put q (ascii " at ") two three e3 fits)
-
-  third-long : length three ≡ length out
-  third-long = ap length third.1 ∙ length-laid q (ascii " at ") two (omega (arith, fit, first.0, second.0, second-long)) ∙ second-long
-
-  fourth : (e ≡ t + length (decimal place)) × (four ≡ laid t (decimal place) three)
-  fourth =
-      let fits : t + length (decimal place) ≤ length three = omega (arith, fit, first.0, second.0, third.0, third-long) in
-      (place-put t e (decimal place) three ee fits, text-put t (decimal place) three four e4 fits)
-
-  pub bad-room : e < length four
-  bad-room =
-      let same : length four ≡ length out
-      = ap length fourth.1 ∙ length-laid t (decimal place) three (omega (arith, fit, first.0, second.0, third.0, third-long)) ∙ third-long in
-      omega (arith, fit, first.0, second.0, third.0, fourth.0)
-
-  pub bad-put : set four e 10 ≡ laid_first (bad_text number place) out
-  unfolding bad_text
-  bad-put =
-      let a = ascii "refused " ++ decimal number in
-      let b = a ++ ascii " at " in
-      let two_is : two ≡ laid 0 a out
-      = second.1 ∙ ap (laid p (decimal number)) first.1 ∙ laid_then p 0 (ascii "refused ") (decimal number) out first.0 (omega arith) in
-      let behind-a : q ≡ 0 + length a = omega (arith, first.0, second.0, length-append (ascii "refused ") (decimal number)) in
-      let three-is : three ≡ laid 0 b out = third.1 ∙ ap (laid q (ascii " at ")) two_is ∙ laid_then q 0 a (ascii " at ") out behind-a (omega arith) in
-      let behind-b : t ≡ 0 + length b = omega (arith, behind-a, third.0, length-append a (ascii " at ")) in
-      let four_is : four ≡ laid 0 (b ++ decimal place) out
-      = fourth.1 ∙ ap (laid t (decimal place)) three-is ∙ laid_then t 0 b (decimal place) out behind-b (omega arith) in
-      let last : e ≡ 0 + length (b ++ decimal place) = omega (arith, behind-b, fourth.0, length-append b (decimal place)) in
-      let whole : (b ++ decimal place) ++ (10 ∷ []) ≡ ascii "refused " ++ (decimal number ++ (ascii " at " ++ (decimal place ++ (10 ∷ []))))
-      = simp append_assoc in
-      ap (λ (l : List ℕ). set l e 10) four_is
-      ∙ set_then e 10 0 (b ++ decimal place) out last (omega (arith, fit, first.0, second.0, third.0, fourth.0))
-      ∙ ap (λ (l : List ℕ). laid 0 l out) whole
+bad-added number place one two three four five fn fp e1 e2 e3 e4 e5 =
+    let most = decimal-most number fn in
+    let more = decimal-most place fp in
+    let first : one ≡ ascii "refused " = e1 ∙ added-fits 53 [] (ascii "refused ") (omega arith) in
+    let long1 : length one ≡ 8 = ap length first in
+    let second : two ≡ one ++ decimal number = e2 ∙ added-fits 53 one (decimal number) (omega arith) in
+    let long2 : length two ≡ 8 + length (decimal number) = ap length second ∙ length-append one (decimal number) ∙ omega arith in
+    let third : three ≡ two ++ ascii " at " = e3 ∙ added-fits 53 two (ascii " at ") (omega arith) in
+    let long3 : length three ≡ 12 + length (decimal number) = ap length third ∙ length-append two (ascii " at ") ∙ omega arith in
+    let fourth : four ≡ three ++ decimal place = e4 ∙ added-fits 53 three (decimal place) (omega arith) in
+    let long4 : length four ≡ 12 + length (decimal number) + length (decimal place) = ap length fourth ∙ length-append three (decimal place) ∙ omega arith in
+    e5 ∙ added-fits 53 four (ascii "\n") (omega arith)
+    ∙ ap (λ (t : List ℕ). t ++ ascii "\n") (fourth ∙ ap (λ (t : List ℕ). t ++ decimal place)
+    (third ∙ ap (λ (t : List ℕ). t ++ ascii " at ") (second ∙ ap (λ (t : List ℕ). t ++ decimal number) first)))
+    ∙ simp append_assoc
 
 -- the text of a file that is read
 module _ (s : List ℕ) (sections : Sections) (read : read_of s ≡ gives sections) where

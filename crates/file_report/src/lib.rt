@@ -19,6 +19,7 @@ use file_reading::{FILTER_BYTES, FILTER_LIMIT, FRAME_BYTES, Sections};
 use filter_matcher::shown::Shown;
 use filter_matcher::{Filter, Kind};
 use refusals::Refusal;
+use text::Page;
 
 fn filter_at(file: &[u8], at: usize) -> Filter
     requires { (at + filter_bytes ≤ length file.now) × (get_or file.now at 0 ≤ 1) }
@@ -197,20 +198,17 @@ impl<'a> FrameFile<'a> {
     }
 }
 
-fn report_bad(number: usize, place: usize, out: &mut [u8]) -> Result<usize, Refusal>
-    ensures { (laying_said result ≡ laying (bad_text number place) out.old)
-        × (out.new ≡ written (laying (bad_text number place) out.old) (bad_text number place) out.old) }
+fn report_bad(refusal: Refusal, out: &mut [u8]) -> Result<usize, Refusal>
+    ensures { let text = bad_text (number_of refusal) (in_one (carried_of refusal)) in
+        (laying_said result ≡ laying text out.old) × (out.new ≡ written (laying text out.old) text out.old) }
 {
-    let needed = 8 + (text::digits(number) + (4 + (text::digits(place) + 1)));
-    if out.len() < needed {
-        return Err(Refusal::OutputTooShort(needed));
-    }
-    let start = text::put_text(out, 0, b"refused ");
-    let end = text::put_decimal(out, start, number);
-    let at = text::put_text(out, end, b" at ");
-    let newline = text::put_decimal(out, at, place);
-    out[newline] = b'\n';
-    Ok(needed)
+    let mut page: Page<53> = Page::new();
+    page.add(b"refused ");
+    page.add_decimal(refusal.number() as usize);
+    page.add(b" at ");
+    page.add_decimal(refusal.carried() as usize);
+    page.add(b"\n");
+    text::lay(page.as_slice(), out)
 }
 
 pub fn report(file: &[u8], out: &mut [u8]) -> Result<usize, Refusal>
@@ -228,6 +226,6 @@ pub fn report(file: &[u8], out: &mut [u8]) -> Result<usize, Refusal>
             };
             frame_file.lay(out)
         }
-        Err(refusal) => report_bad(refusal.number() as usize, refusal.carried() as usize, out),
+        Err(refusal) => report_bad(refusal, out),
     }
 }

@@ -1,7 +1,6 @@
 -- `file_report::report` meets its contract: the text is that of what the reader answered. Assumes nothing.
-use Rattle.std.proofs.Common.{sym, ap₂, ◌∙◌, arith}
+use Rattle.std.proofs.Common.{sym, arith}
 use lib.ListN.{length-take}
-use Rattle.file_report.specs.Text.{bad_text}
 use Rattle.file_report.proofs.Held.{held-many}
 use Rattle.file_report.proofs.Frames.{text-refused, same_text}
 use Rattle.file_report.proofs.report.Goals as goal
@@ -16,8 +15,5 @@ slice_bounds-filters-end c = sym (held-many c.args.file.now c.in-Ok.sections _ c
 
 pub returns-in-Err : goal.returns-in-Err
 returns-in-Err c =
-    let both =
-    let args = c.args in
-    let refused = text-refused args.file.now _ (sym c.in-Err.ensures) in
-    same_text _ _ args.out.now _ _ (refused ∙ ap₂ bad_text (sym c.number.ensures) (sym c.carried.ensures)) c.report_bad.ensures in
+    let both = same_text _ _ c.args.out.now _ _ (text-refused c.args.file.now _ (sym c.in-Err.ensures)) c.report_bad.ensures in
     record { result_value = both.0; out_after = both.1 }
