@@ -17,9 +17,7 @@ use Rattle.refusals.specs.declared.Refusal.{Refusal}
 use Rattle.filter_list.specs.declared.Listed.{Listed}
 use Rattle.filter_list.proofs.Pattern.{down-length}
 use Rattle.filter_report.specs.Lines.{Found, listed, found_in}
-use Rattle.std.specs.Prelude.{Result, Ok, Err}
-use Rattle.filter_report.specs.declared.faults.FaultyLine.{FaultyLine}
-use Rattle.filter_report.specs.Parts.{reading_found}
+use Rattle.std.specs.Prelude.{Ok, Err}
 use Rattle.filter_report.specs.Text.{none_text, list_text, filter_text}
 use Rattle.filter_report.proofs.Within.{AllWithin, found_within}
 
@@ -54,10 +52,6 @@ module _ (extended : Bool) (list : List ℕ) (some : 0 < length list) (within : 
       let here : listing_of extended list (length out) ≡ gives (through_of extended (registers_of_list extended list)) = ap (listing_of extended list) long ∙ made in
       let laid : now ≡ laid_first (pattern_of (width_of extended) list) out = e ∙ rw here in
       ap (take (width_of extended)) laid ∙ take_at (pattern_of (width_of extended) list) _ (width_of extended) (pattern-long extended list)
-
--- a reading by its case
-pub found_listed : (limit : ℕ) (hex : Bool) (text list : List ℕ) (r : Result ℕ FaultyLine) (count : ℕ) → r ≡ Ok count → reading_found r list ≡ found_in limit hex text → listed (take count list) ≡ found_in limit hex text
-found_listed limit hex text list r count e f = ap (λ (q : Result ℕ FaultyLine). reading_found q list) (sym e) ∙ f
 
 pub all-within : (limit : ℕ) (hex : Bool) (text list : List ℕ) → listed list ≡ found_in limit hex text → first_above limit list ≡ length list
 all-within limit hex text list e = by (found_in limit hex text) (sym e) (found_within limit hex text)

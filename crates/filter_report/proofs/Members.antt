@@ -168,9 +168,6 @@ Known pattern k n size left i =
     (size ≡ length (members_of (drop i pattern))) × (left < size) × (n < 2 ^ i)
     × (get_or (members_of pattern) k 0 ≡ n * 2 ^ length (drop i pattern) + get_or (members_of (drop i pattern)) left 0)
 
-pub known-first : (pattern : List ℕ) (k size : ℕ) → size ≡ length (members_of pattern) → k < size → Known pattern k 0 size k 0
-known-first pattern k size s h = (s, h, omega arith, omega arith)
-
 shifted : (n bit w g : ℕ) → n * (w * 2) + (bit * w + g) ≡ (2 * n + bit) * w + g
 shifted n bit w g =
     let one : n * (w * 2) ≡ (2 * n) * w = mul_comm n (w * 2) ∙ ap (λ (x : ℕ). x * n) (mul_comm w 2) ∙ mul_assoc 2 w n ∙ ap (λ (x : ℕ). 2 * x) (mul_comm w n) ∙ sym (mul_assoc 2 n w) in

@@ -15,8 +15,6 @@ use borrow.Author.Tests.{eq-eqb, ne_eqb, lt-ltb, le-ltb}
 use Rattle.laws.specs.Row.{bit}
 use Rattle.laws.proofs.Bools.{both_left, both_right}
 use Rattle.identifiers.specs.Limits.{width_of, limit_of}
-use Rattle.text.specs.Decimal.{decimal}
-use Rattle.text.proofs.Decimal.{decimal-long}
 use Rattle.filter_characters.specs.Characters.{is_character, all_characters}
 use Rattle.filter_characters.proofs.Characters.{character-none}
 use Rattle.filter_list.specs.Pattern.{pattern_of}
@@ -25,10 +23,10 @@ use Rattle.filter_list_laws.specs.Accepts.{accepts_id, count_below, accepted_of}
 use Rattle.filter_list_laws.proofs.Counts.{accepts-low, accepts-high, free, pattern-counts}
 use Rattle.filter_list_laws.proofs.Members.{none_above, member-accepted}
 use Rattle.filter_list_laws.proofs.Request.{count-is, pattern-good}
-use Rattle.filter_report.specs.Through.{raised, members_of, occurs, different, not_listed, rest_text}
+use Rattle.filter_report.specs.Through.{raised, members_of, occurs, different, not_listed}
 use Rattle.filter_report.proofs.Listed.{width_small, pattern-long}
 use Rattle.filter_report.proofs.Members.{raised_long, members-zero, members-one, members-free}
-use Rattle.filter_report.proofs.Unlisted.{occurrences, others-count, rest-long}
+use Rattle.filter_report.proofs.Unlisted.{occurrences, others-count}
 
 -- ---- how often a number stands among others
 occurrences-join : (n : ℕ) (a b : List ℕ) → occurrences n (a ++ b) ≡ occurrences n a + occurrences n b
@@ -190,9 +188,6 @@ module _ (extended : Bool) (list : List ℕ) where
   pub through-small : through_of extended (registers_of_list extended list) < 2 ^ 32
   through-small = omega (arith, through-members, members-long pattern good, pow_mono {i = free pattern} {j = 31} (omega (arith, free-few pattern, long, width_small extended)))
 
-  pub through-digits : (through : ℕ) → through ≡ through_of extended (registers_of_list extended list) → length (decimal through) ≤ 10
-  through-digits through e = decimal-long 9 through (omega (arith, e, through-small))
-
   -- the listed ones are among them, each once; the others are the rest
   pub through-others : first_above (limit_of extended) list ≡ length list
       → through_of extended (registers_of_list extended list) ≡ different list + length (not_listed (pattern_of (width_of extended) list) list)
@@ -202,6 +197,3 @@ module _ (extended : Bool) (list : List ℕ) where
       once n m =
           let small : n < 2 ^ length pattern = rw long (omega (arith, none_above (limit_of extended) list (omega arith) n m, all_of extended)) in
           members-count pattern good n small ∙ ap bit (member-accepted (width_of extended) list n m)
-
-  pub rest-short : (own : List ℕ) → own ≡ pattern_of (width_of extended) list → first_above (limit_of extended) list ≡ length list → length (rest_text extended (not_listed own list)) ≤ 176
-  rest-short own e within = rw e (rest-long extended (not_listed pattern list) (omega (arith, through-small, through-others within)))

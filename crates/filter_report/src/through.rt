@@ -3,8 +3,7 @@ ghost use Rattle.std.specs.Prelude.{◌≡◌, List, ◌∷◌, ℕ, ◌+◌, �
 ghost use Rattle.filter_report.specs.Listed.{ids_text};
 ghost use Rattle.filter_report.specs.Through.{members_of, occurs as Through·occurs, different as Through·different, not_listed, rest_text, through_text};
 
-use crate::named;
-use crate::named::NAMED_LIMIT;
+use crate::named::{self, NAMED_LIMIT};
 use text::Page;
 
 fn occurs(n: u32, list: &[u32]) -> bool
