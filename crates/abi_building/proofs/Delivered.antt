@@ -8,6 +8,7 @@ use lib.Dec.{leb}
 use lib.ListN.{length, replicate}
 use native.Mathlib.Omega.{arith}
 use borrow.Author.Tests.{lt-leb, leb-false}
+use Rattle.std.specs.Prelude.{Ok, Err}
 use Rattle.laws.specs.Said.{refuses}
 use Rattle.refusals.specs.declared.Refusal.{Refusal}
 use Rattle.refusals.specs.Table.{refusal_said}
@@ -20,20 +21,19 @@ use Rattle.frame_building.specs.Building.{in_order, non_compliant_by, judge_by, 
 use Rattle.frame_building.specs.declared.Way.{Way}
 use Rattle.frame_building.proofs.Judged.{way-built}
 use Rattle.abi_building.specs.Building.{id_from, plain}
-use Rattle.abi_building.specs.declared.IdMade.TheVariants.{Made, Refused}
 
 above : (wrong_code format : Bool) (id : ℕ) (remote : Bool) (code length : ℕ) → limit_of format < id
     → in_order wrong_code format id remote code length ≡ refuses 1 []
 above wrong_code format id remote code length h = rw (lt-leb id (limit_of format) h)
 
 -- an identifier that was made is the format and the number
-pub made-id : (extended : Bool) (id : ℕ) (i : Id) → id_from extended id ≡ Made i → (is_extended i ≡ extended) × (raw_of i ≡ id)
+pub made-id : (extended : Bool) (id : ℕ) (i : Id) → id_from extended id ≡ Ok i → (is_extended i ≡ extended) × (raw_of i ≡ id)
 made-id true id i e =
     let same : Extended (record { 0 = id }) ≡ i = cc in
     (sym (ap is_extended same), sym (ap raw_of same))
 made-id false id i e = by (leb id 0xFFFF) e
   where
-    by : (fits : Bool) → cond fits (Made (Standard (record { 0 = id }))) (Refused IdentifierAboveLimit) ≡ Made i
+    by : (fits : Bool) → cond fits (Ok (Standard (record { 0 = id }))) (Err IdentifierAboveLimit) ≡ Ok i
         → (is_extended i ≡ false) × (raw_of i ≡ id)
     by true e =
         let same : Standard (record { 0 = id }) ≡ i = cc in
@@ -41,12 +41,12 @@ made-id false id i e = by (leb id 0xFFFF) e
     by false e = absurd (let z : ◌≡◌ {A = ℕ} 0 1 = cc in omega arith)
 
 -- where none was made, building owes the same refusal
-pub no-id : (extended : Bool) (id : ℕ) (r : Refusal) → id_from extended id ≡ Refused r
+pub no-id : (extended : Bool) (id : ℕ) (r : Refusal) → id_from extended id ≡ Err r
     → (wrong_code remote : Bool) (code length : ℕ) → in_order wrong_code extended id remote code length ≡ refusal_said r
 no-id true id r e wrong_code remote code length = absurd (let z : ◌≡◌ {A = ℕ} 0 1 = cc in omega arith)
 no-id false id r e wrong_code remote code length = by (leb id 0xFFFF) refl e
   where
-    by : (fits : Bool) → leb id 0xFFFF ≡ fits → cond fits (Made (Standard (record { 0 = id }))) (Refused IdentifierAboveLimit) ≡ Refused r
+    by : (fits : Bool) → leb id 0xFFFF ≡ fits → cond fits (Ok (Standard (record { 0 = id }))) (Err IdentifierAboveLimit) ≡ Err r
         → in_order wrong_code false id remote code length ≡ refusal_said r
     by true small e = absurd (let z : ◌≡◌ {A = ℕ} 0 1 = cc in omega arith)
     by false large e =
@@ -54,12 +54,12 @@ no-id false id r e wrong_code remote code length = by (leb id 0xFFFF) refl e
         above wrong_code false id remote code length (omega (arith, leb-false id 0xFFFF large)) ∙ ap refusal_said same
 
 -- the frame that is asked for by an identifier that was made
-pub asked-plain : (extended : Bool) (id : ℕ) (i : Id) → id_from extended id ≡ Made i → (remote own : Bool) (code : ℕ) (payload : List ℕ)
+pub asked-plain : (extended : Bool) (id : ℕ) (i : Id) → id_from extended id ≡ Ok i → (remote own : Bool) (code : ℕ) (payload : List ℕ)
     → asked i remote own code payload ≡ plain extended id remote own code payload
 asked-plain extended id i e remote own code payload = rw ((made-id extended id i e).0, (made-id extended id i e).1)
 
 -- and what building owes where none was, in either way
-pub none-built : (way : Way) (f : Frame) (r : Refusal) → id_from f.extended f.id ≡ Refused r → build_in way f ≡ (refusal_said r, replicate 13 0)
+pub none-built : (way : Way) (f : Frame) (r : Refusal) → id_from f.extended f.id ≡ Err r → build_in way f ≡ (refusal_said r, replicate 13 0)
 unfolding judge_by build_by
 none-built way f r e =
     let wrong = non_compliant_by (most_of way) f.remote f.code (length f.payload) in

@@ -1,21 +1,21 @@
 -- Building by plain numbers: an identifier is its format and its number, the frame a lent slice that must be 13 bytes long.
 -- Source: the outline, "What changes shape"; docs/ABI.md.
-use Rattle.std.specs.Prelude.{ℕ, Bool, true, false, cond, List, leb, length}
+use Rattle.std.specs.Prelude.{ℕ, Bool, true, false, cond, List, leb, length, Result, Ok, Err}
 use Rattle.laws.specs.Said.{Said}
+use Rattle.refusals.specs.declared.Refusal.{Refusal}
 use Rattle.refusals.specs.declared.Refusal.TheVariants.{IdentifierAboveLimit}
+use Rattle.identifiers.specs.declared.Id.{Id}
 use Rattle.identifiers.specs.declared.Id.TheVariants.{Standard, Extended}
 use Rattle.frame_reading.specs.Buffer.{Frame}
 use Rattle.frame_building.specs.Building.{build_in}
 use Rattle.frame_building.specs.declared.Way.{Way}
 use Rattle.frame_building.specs.declared.Way.TheVariants.{Rust}
 use Rattle.abi_answers.specs.Answers.{delivering, delivery_leaves}
-use Rattle.abi_building.specs.declared.IdMade.{IdMade}
-use Rattle.abi_building.specs.declared.IdMade.TheVariants.{Made, Refused}
 
 -- the identifier of a format and a number: a standard number that no u16 holds is none
-abbrev pub id_from : Bool → ℕ → IdMade
-id_from true raw = Made (Extended (record { 0 = raw }))
-id_from false raw = cond (leb raw 0xFFFF) (Made (Standard (record { 0 = raw }))) (Refused IdentifierAboveLimit)
+abbrev pub id_from : Bool → ℕ → Result Id Refusal
+id_from true raw = Ok (Extended (record { 0 = raw }))
+id_from false raw = cond (leb raw 0xFFFF) (Ok (Standard (record { 0 = raw }))) (Err IdentifierAboveLimit)
 
 abbrev pub plain : Bool → ℕ → Bool → Bool → ℕ → List ℕ → Frame
 plain extended id remote own code payload =

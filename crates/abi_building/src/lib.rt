@@ -2,51 +2,46 @@
 #![tactic(auto)]
 
 ghost use Rattle.std.specs.Prelude.{◌≡◌, true, false};
-ghost use Rattle.frame_building.specs.Building.{built_said};
+ghost use Rattle.frame_building.specs.Building.{build_in, built_said};
 ghost use Rattle.frame_building.specs.declared.Way.TheVariants.{Iso};
-ghost use Rattle.abi_answers.specs.Answers.{answer_of, delivering, delivery_leaves};
+ghost use Rattle.abi_answers.specs.Answers.{answer_of};
 ghost use Rattle.abi_building.specs.Building.{id_from, plain, plain_data, building_in, building_in_leaves, building, building_leaves};
 
-use abi_answers::{Answer, Delivery};
-use frame_building::{Building, Built, Way};
+use abi_answers::Answer;
+use frame_building::Way;
 use identifiers::{ExtendedId, Id, StandardId};
 use refusals::Refusal;
 
-#[derive(Clone, Copy)]
-enum IdMade {
-    Made(Id),
-    Refused(Refusal),
-}
-
 // The identifier of a format and a number; refusal 1 for a standard number that no u16 holds.
-fn id_of(extended: bool, raw: u32) -> IdMade
+fn id_of(extended: bool, raw: u32) -> Result<Id, Refusal>
     ensures { result ≡ id_from extended raw }
 {
     if extended {
-        return IdMade::Made(Id::Extended(ExtendedId(raw)));
+        return Ok(Id::Extended(ExtendedId(raw)));
     }
     if raw <= 0xFFFF {
-        return IdMade::Made(Id::Standard(StandardId(raw as u16)));
+        return Ok(Id::Standard(StandardId(raw as u16)));
     }
-    IdMade::Refused(Refusal::IdentifierAboveLimit)
+    Err(Refusal::IdentifierAboveLimit)
 }
 
-// The answer of building, and the buffer in a lent frame, the argument of this number.
-fn deliver(built: Built, argument: usize, frame: &mut [u8]) -> Answer
-    ensures value { result ≡ answer_of (delivering 13 argument frame.old (built_said built)) }
-    ensures frame_after { frame.new ≡ delivery_leaves 13 argument frame.old (built_said built) }
+// What is built of plain numbers.
+fn built(
+    way: Way,
+    extended: bool,
+    id: u32,
+    remote: bool,
+    own: bool,
+    dlc: usize,
+    data: &[u8],
+) -> Result<[u8; 13], Refusal>
+    ensures { built_said result ≡ build_in way (plain extended id remote own dlc «data».now) }
 {
-    let answer = built.answer;
-    let bytes = built.frame;
-    match answer {
-        Building::Made => abi_answers::deliver(Delivery::Given(13), &bytes, argument, frame),
-        Building::Refused(refusal) => {
-            abi_answers::deliver(Delivery::Refused(refusal), &bytes, argument, frame)
-        }
-    }
+    let id = id_of(extended, id)?;
+    frame_building::build(way, id, remote, own, dlc, data)
 }
 
-// What is built of plain numbers, into a lent frame, the argument of this number.
+// The same into a lent frame, the argument of this number.
 fn build(
     way: Way,
     extended: bool,
@@ -64,14 +59,8 @@ fn build(
     if frame.len() != 13 {
         return abi_answers::wrong_length(argument);
     }
-    match id_of(extended, id) {
-        IdMade::Made(id) => deliver(
-            frame_building::build(way, id, remote, own, dlc, data),
-            argument,
-            frame,
-        ),
-        IdMade::Refused(refusal) => abi_answers::refused(refusal),
-    }
+    let made = built(way, extended, id, remote, own, dlc, data);
+    abi_answers::deliver(made, argument, frame)
 }
 
 #[unsafe(no_mangle)]

@@ -1,9 +1,9 @@
 -- What building answers: the refusal that is due, else the buffer; in the Rust's way, and in every way that is told by the largest code of a remote frame.
 -- Source: the outline, refusals 1 to 3 in this order; ISO 11898-1, data length code; request #101: there a remote frame may have code 0 to 8.
-use Rattle.std.specs.Prelude.{ℕ, ◌%◌, ◌≡◌, Bool, false, cond, not, ◌&&◌, ◌||◌, List, [], ◌∷◌, eqb, ltb, leb, length, replicate, Result, Ok, Err, ⊤}
+use Rattle.std.specs.Prelude.{ℕ, ◌%◌, ◌≡◌, Bool, false, cond, not, ◌&&◌, ◌||◌, List, [], ◌∷◌, eqb, ltb, leb, length, replicate, Result, ⊤}
 use Rattle.laws.specs.Said.{Said, refuses, gives, accepted}
 use Rattle.refusals.specs.declared.Refusal.{Refusal}
-use Rattle.refusals.specs.Table.{refusal_said}
+use Rattle.refusals.specs.Table.{answer_said, bytes_said}
 use Rattle.identifiers.specs.declared.Id.{Id}
 use Rattle.identifiers.specs.Limits.{limit_of, is_extended, raw_of}
 use Rattle.frame_reading.specs.Buffer.{Frame}
@@ -72,12 +72,10 @@ Buildable f = (way : Way) × ((build_in way f).0 ≡ gives 13)
 
 -- a judgement, and what building answers by it: 13 bytes, or zeros beside a refusal
 abbrev pub building_said : Result ⊤ Refusal → Said ℕ
-building_said (Ok nothing) = gives 13
-building_said (Err f) = refusal_said f
+building_said = answer_said (λ nothing. 13)
 
 abbrev pub built_said : Result (List ℕ) Refusal → Said ℕ × List ℕ
-built_said (Ok frame) = (gives 13, frame)
-built_said (Err f) = (refusal_said f, replicate 13 0)
+built_said = bytes_said 13
 
 -- the frame that a caller asks for
 abbrev pub asked : Id → Bool → Bool → ℕ → List ℕ → Frame

@@ -39,7 +39,10 @@ fn non_compliant_dlc(dlc: usize, length: usize) -> bool
     if dlc > 15 {
         return true;
     }
-    (length < 8 && dlc != length) || (length == 8 && dlc < 8)
+    if length < 8 {
+        return dlc != length;
+    }
+    length == 8 && dlc < 8
 }
 
 fn refuse_length(length: usize) -> Result<(), Refusal>
@@ -108,12 +111,18 @@ fn front(id: Id, remote: bool, own: bool, code: u8) -> [u8; 13]
     let mut frame = [0; 13];
     match id {
         Id::Standard(standard) => {
+            let word = (standard.0 as u32) * 32;
             frame[0] = info(false, remote, own, code);
-            frame[1..3].copy_from_slice(&(standard.0 * 32).to_be_bytes());
+            frame[1] = octets::low_byte(word >> 8);
+            frame[2] = octets::low_byte(word);
         }
         Id::Extended(extended) => {
+            let word = extended.0 * 8;
             frame[0] = info(true, remote, own, code);
-            frame[1..5].copy_from_slice(&(extended.0 * 8).to_be_bytes());
+            frame[1] = octets::low_byte(word >> 24);
+            frame[2] = octets::low_byte(word >> 16);
+            frame[3] = octets::low_byte(word >> 8);
+            frame[4] = octets::low_byte(word);
         }
     }
     frame
@@ -129,13 +138,14 @@ fn data_start(id: Id) -> usize
 }
 
 // The buffer with the data in it from a place on.
-fn with_data(frame: [u8; 13], start: usize, data: &[u8]) -> [u8; 13]
+fn with_data(mut frame: [u8; 13], start: usize, data: &[u8]) -> [u8; 13]
     requires { (start ≤ 5) × (length «data».now ≤ 8) }
     ensures { result ≡ laid start «data».now frame }
 {
-    let mut filled = frame;
-    filled[start..start + data.len()].copy_from_slice(data);
-    filled
+    for i in 0..data.len() {
+        frame[start + i] = data[i];
+    }
+    frame
 }
 
 pub fn build(
