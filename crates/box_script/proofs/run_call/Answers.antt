@@ -9,9 +9,9 @@ use Rattle.box_words.specs.declared.Words.{Words}
 use Rattle.box_drain.specs.Run.{arrives, takes, starts, steps}
 use Rattle.box_script.specs.declared.call.Call.{Call}
 use Rattle.box_script.specs.declared.call.Call.TheVariants as call
-use Rattle.box_script.specs.Format.{first_byte, call_length, calls, loads, tells, load_at}
+use Rattle.box_script.specs.Format.{first_byte, call_length, calls, tells}
 use Rattle.box_script.specs.Answers.{call_answer, answer_of, answer_length}
-use Rattle.box_script.proofs.Format.{arrival-here, take-here, start-here, step-here, load_here, state-here, stands-long, stands-first}
+use Rattle.box_script.proofs.Format.{arrival-here, take-here, start-here, step-here, state-here, stands-long, stands-first}
 use Rattle.box_script.proofs.Run.{did}
 use Rattle.box_script.proofs.run_call.Goals as goal
 
@@ -77,12 +77,6 @@ unfolding call_answer answer_of
 returns-in-Step c =
     let s = c.args.script.now in
     did s c.args.at c.args.state c.run_step.result c.run_step.new.answer (calls steps) (step-here s c.args.at (stands-first s c.args.at c.args.call call.Step c.requires.0 c.in-Step.is)) c.run_step.ensures
-
-pub returns-in-Load : goal.returns-in-Load
-returns-in-Load c =
-    let s = c.args.script.now in
-    let at = c.args.at in
-    did s at c.args.state c.run_load.result c.run_load.new.answer (loads (load_at s (at + 1))) (load_here s at (stands-first s at c.args.call call.Load c.requires.0 c.in-Load.is)) c.run_load.ensures
 
 pub returns-in-State : goal.returns-in-State
 unfolding answer_of

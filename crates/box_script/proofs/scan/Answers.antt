@@ -1,16 +1,7 @@
 -- `scan`: one turn counts one call more, and where no call is whole none is left. Assumes nothing.
 use native.Mathlib.Omega.{arith}
-use Rattle.box_script.proofs.Counted.{count-start, needed-start, count_turn, needed-turn, count-end, needed-end}
+use Rattle.box_script.proofs.Counted.{count_turn, needed-turn, count-end, needed-end}
 use Rattle.box_script.proofs.scan.Goals as goal
-
-pub loop-at-init : goal.loop-at-init
-loop-at-init c = record {
-  few = omega arith;
-  inside = omega arith;
-  carried = omega arith;
-  counted = count-start c.args.script.now;
-  sized = needed-start c.args.script.now;
-}
 
 pub loop-at-preserved : goal.loop-at-preserved
 loop-at-preserved c =
