@@ -1,5 +1,6 @@
 // The stored answers of the four filter compilers beside ours. A line's first byte says which compiler, from 0.
 use crate::stored_text::Columns;
+use abi_answers::Answer;
 
 #[derive(Clone, Copy, Debug, PartialEq, Eq)]
 enum Compiler {
@@ -61,47 +62,51 @@ pub(crate) fn by_patterns(columns: &mut Columns<'_>) -> bool {
     columns.leaves(answer, &registers)
 }
 
+fn single_standard(columns: &mut Columns<'_>, registers: &mut [u8]) -> Answer {
+    abi_masks::chherbolat_single_standard_filter_new_from_code_mask(
+        columns.short(),
+        columns.short(),
+        columns.flag(),
+        columns.flag(),
+        columns.byte(),
+        columns.byte(),
+        columns.byte(),
+        columns.byte(),
+        registers,
+    )
+}
+
+fn dual_standard(columns: &mut Columns<'_>, registers: &mut [u8]) -> Answer {
+    abi_masks::chherbolat_dual_standard_filter_new_from_code_mask(
+        columns.short(),
+        columns.short(),
+        columns.flag(),
+        columns.flag(),
+        columns.byte(),
+        columns.byte(),
+        columns.short(),
+        columns.short(),
+        columns.flag(),
+        columns.flag(),
+        registers,
+    )
+}
+
 pub(crate) fn by_code_and_mask(columns: &mut Columns<'_>) -> bool {
     let Ok(compiler) = Compiler::try_from(columns.byte()) else {
         return false;
     };
     let mut registers = LENT;
     let answer = match compiler {
-        Compiler::SingleStandard => {
-            abi_masks::chherbolat_single_standard_filter_new_from_code_mask(
-                columns.short(),
-                columns.short(),
-                columns.flag(),
-                columns.flag(),
-                columns.byte(),
-                columns.byte(),
-                columns.byte(),
-                columns.byte(),
-                &mut registers,
-            )
-        }
-        Compiler::SingleExtended => {
-            abi_masks::chherbolat_single_extended_filter_new_from_code_mask(
-                columns.long(),
-                columns.long(),
-                columns.flag(),
-                columns.flag(),
-                &mut registers,
-            )
-        }
-        Compiler::DualStandard => abi_masks::chherbolat_dual_standard_filter_new_from_code_mask(
-            columns.short(),
-            columns.short(),
-            columns.flag(),
-            columns.flag(),
-            columns.byte(),
-            columns.byte(),
-            columns.short(),
-            columns.short(),
+        Compiler::SingleStandard => single_standard(columns, &mut registers),
+        Compiler::SingleExtended => abi_masks::chherbolat_single_extended_filter_new_from_code_mask(
+            columns.long(),
+            columns.long(),
             columns.flag(),
             columns.flag(),
             &mut registers,
         ),
+        Compiler::DualStandard => dual_standard(columns, &mut registers),
         Compiler::DualExtended => abi_masks::chherbolat_dual_extended_filter_new_from_code_mask(
             columns.short(),
             columns.short(),
