@@ -14,7 +14,7 @@ use Rattle.file_reading.specs.declared.Sections.{Sections}
 use Rattle.file_reading.specs.Reader.{sections_with, frames_from, frames_at, filters_from, read_of}
 
 -- ---- a file is read
-frames-read : (len : ℕ) (sections : Sections) (n at : ℕ) → at + frame_bytes * n ≡ len → frames_from len sections n at ≡ gives sections
+pub frames-read : (len : ℕ) (sections : Sections) (n at : ℕ) → at + frame_bytes * n ≡ len → frames_from len sections n at ≡ gives sections
 unfolding frames_from
 frames-read len sections zero at e = rw (le-ltb at len (omega arith))
 frames-read len sections (suc n) at e = rw (le-ltb len (at + frame_bytes) (omega arith)) (frames-read len sections n (at + frame_bytes) (omega arith))

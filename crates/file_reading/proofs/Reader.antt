@@ -1,5 +1,5 @@
 -- One turn of the reader's definitions, and where each ends. Assumes nothing.
-use Prim.Native.Nat.{ℕ, zero, suc, ◌+◌, ◌≤◌, ◌<◌}
+use Prim.Native.Nat.{ℕ, zero, suc, ◌+◌, ◌*◌, ◌≤◌, ◌<◌}
 use mathlib.Core.Path.{◌≡◌}
 use mathlib.Core.List.{List, [], ◌∷◌}
 use lib.ListN.{length, get_or}
@@ -10,24 +10,26 @@ use Rattle.file_reading.specs.Format.{filter_limit, frame_limit, filter_bytes, f
 use Rattle.file_reading.specs.declared.Sections.{Sections}
 use Rattle.file_reading.specs.Reader.{sections_with, frames_from, frames_at, filters_from, read_of}
 
-module _ (len : ℕ) (sections : Sections) (said : Said Sections) where
-  pub frames-turn : (left at less next : ℕ) → left ≡ suc less → next ≡ at + frame_bytes → at + frame_bytes ≤ len
-      → frames_from len sections left at ≡ said → frames_from len sections less next ≡ said
+module _ (len : ℕ) (sections : Sections) where
+  pub frames-cut : (n at whole : ℕ) → at + frame_bytes * whole ≤ len → len < at + frame_bytes * (whole + 1) → whole < n
+      → refuses 11 ((at + frame_bytes * whole) ∷ []) ≡ frames_from len sections n at
   unfolding frames_from
-  frames-turn left at less next e f l h = rw f (simp (e, le-ltb len (at + frame_bytes) l) at h)
+  frames-cut zero at whole l m h = absurd (omega arith)
+  frames-cut (suc n) at zero l m h =
+      let e : at + frame_bytes * 0 ≡ at = omega arith in
+      rw (e, lt-ltb len (at + frame_bytes) (omega arith))
+  frames-cut (suc n) at (suc whole) l m h =
+      let e : at + frame_bytes * suc whole ≡ at + frame_bytes + frame_bytes * whole = omega arith in
+      rw (e, le-ltb len (at + frame_bytes) (omega arith)) (frames-cut n (at + frame_bytes) whole (omega arith) (omega arith) (omega arith))
 
-  pub frames-cut : (left at : ℕ) → 0 < left → len < at + frame_bytes → frames_from len sections left at ≡ said → refuses 11 (at ∷ []) ≡ said
+  pub frames-over : (n at : ℕ) → at + frame_bytes * n < len → refuses 13 ((at + frame_bytes * n) ∷ []) ≡ frames_from len sections n at
   unfolding frames_from
-  frames-cut zero at p l h = absurd (omega arith)
-  frames-cut (suc n) at p l h = simp (lt-ltb len (at + frame_bytes) l) at h
-
-  pub frames-over : (left at end : ℕ) → left ≡ 0 → end ≡ at → end < len → frames_from len sections left at ≡ said → refuses 13 (end ∷ []) ≡ said
-  unfolding frames_from
-  frames-over left at end e f l h = simp (e, ← f, lt-ltb end len l) at h
-
-  pub frames-end : (left at end : ℕ) → left ≡ 0 → end ≡ at → len ≤ end → frames_from len sections left at ≡ said → gives sections ≡ said
-  unfolding frames_from
-  frames-end left at end e f l h = simp (e, ← f, le-ltb end len l) at h
+  frames-over zero at h =
+      let e : at + frame_bytes * 0 ≡ at = omega arith in
+      rw (e, lt-ltb at len (omega arith))
+  frames-over (suc n) at h =
+      let e : at + frame_bytes * suc n ≡ at + frame_bytes + frame_bytes * n = omega arith in
+      rw (e, le-ltb len (at + frame_bytes) (omega arith)) (frames-over n (at + frame_bytes) (omega arith))
 
 module _ (s : List ℕ) (filters : ℕ) (said : Said Sections) where
   pub filters-turn : (left at less next : ℕ) → left ≡ suc less → next ≡ at + filter_bytes → get_or s at 0 ≤ 1 → at + filter_bytes ≤ length s

@@ -58,13 +58,14 @@ fn read_filters(file: &[u8], filters: usize) -> Result<(), Refusal>
 
 // The frames, and nothing after them.
 fn read_frames(len: usize, frames: usize, start: usize) -> Result<(), Refusal>
-    requires { (frames ≤ frame_limit) × (start < 256) }
+    requires { (frames ≤ frame_limit) × (start < 256) × (start ≤ len) }
     ensures { (sections : _) → before result (gives sections) ≡ frames_from len sections frames start }
 {
-    for i in 0..frames {
-        field(len, start + FRAME_BYTES * i, FRAME_BYTES)?;
-    }
     let end = start + FRAME_BYTES * frames;
+    if len < end {
+        let whole = (len - start) / FRAME_BYTES;
+        return Err(Refusal::FileEnds(start + FRAME_BYTES * whole));
+    }
     if len > end {
         return Err(Refusal::BytesAfterEnd(end));
     }

@@ -1,22 +1,14 @@
--- `file_reading::read_frames` meets its contract: at each turn what is left of the frames gives the same answer. Assumes nothing.
-use Rattle.std.proofs.Common.{arith}
-use Rattle.std.proofs.lemmas.Result.{err_from_is_err_and}
-use Rattle.file_reading.proofs.Reader.{frames-turn, frames-cut, frames-over, frames-end}
+-- `file_reading::read_frames` meets its contract: the first frame that is not whole is found by a division. Assumes nothing.
+use Rattle.std.proofs.Common.{sym, arith}
+use Rattle.file_reading.proofs.Reader.{frames-cut, frames-over}
+use Rattle.file_reading.proofs.Format.{frames-read}
 use Rattle.file_reading.proofs.read_frames.Goals as goal
 
-pub returns-in_err-field : goal.returns-in_err-field
-returns-in_err-field c sections =
-    let p = err_from_is_err_and c.from_residual.result c.from_residual.ensures.1 in
-    let cut = c.in_err-field.ensures.err in
-    rw (p.1, p.2, cut.0) (frames-cut _ sections _ _ _ (omega arith) cut.1 (c.loop-i.invariant sections))
-
-pub loop-i-preserved : goal.loop-i-preserved
-loop-i-preserved c sections =
-    frames-turn _ sections _ _ _ _ _ (omega arith) (omega arith) c.in_ok-field.ensures.ok (c.loop-i.invariant sections)
-
 pub returns-then-len-end : goal.returns-then-len-end
-returns-then-len-end c sections =
-    frames-over _ sections _ _ _ _ (omega arith) (omega arith) c.if-len-end.true (c.loop-i.invariant sections)
+returns-then-len-end c sections = frames-cut c.args.len sections c.args.frames c.args.start _ (omega arith) (omega arith) (omega arith)
+
+pub returns-then-len-end-2 : goal.returns-then-len-end-2
+returns-then-len-end-2 c sections = frames-over c.args.len sections c.args.frames c.args.start c.if-len-end-2.true
 
 pub returns : goal.returns
-returns c sections = frames-end _ sections _ _ _ _ (omega arith) (omega arith) c.if-len-end.false (c.loop-i.invariant sections)
+returns c sections = sym (frames-read c.args.len sections c.args.frames c.args.start (omega arith))
