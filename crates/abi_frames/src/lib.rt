@@ -41,7 +41,8 @@ pub extern "C" fn chherbolat_identifier(frame: &[u8]) -> Answer
     if frame.len() != 13 {
         return abi_answers::wrong_length(0);
     }
-    identifier_answer(frame_reading::identifier(&abi_answers::array(frame)))
+    let bytes: [u8; 13] = abi_answers::array(frame);
+    identifier_answer(frame_reading::identifier(&bytes))
 }
 
 #[unsafe(no_mangle)]

@@ -13,6 +13,6 @@ pub returns : goal.returns
 unfolding identifier_of
 returns c =
     let long = c.if-frame-ne13.false in
-    let bytes = c.array.ensures ∙ laid-whole 13 _ long in
+    let bytes = c.array-bytes.ensures ∙ laid-whole 13 _ long in
     let number = ap (λ (i : Bool × ℕ). i.1) c.identifier.ensures.0 in
     rw (sized-yes _ _ _ _ long, ← bytes, ← number) c.identifier_answer.ensures
