@@ -5,7 +5,7 @@ use mathlib.Core.List.{List, [], ◌∷◌}
 use lib.ListN.{length, get_or}
 use native.Mathlib.Omega.{arith}
 use borrow.Author.Tests.{lt-ltb, le-ltb}
-use Rattle.laws.specs.Said.{Said, refuses, gives}
+use Rattle.laws.specs.Said.{Said, refuses}
 use Rattle.file_reading.specs.Format.{filter_limit, frame_limit, filter_bytes, frame_bytes, count_at}
 use Rattle.file_reading.specs.declared.Sections.{Sections}
 use Rattle.file_reading.specs.Reader.{sections_with, frames_from, frames_at, filters_from, read_of}

@@ -17,6 +17,9 @@ pub const FILTER_BYTES: usize = 9;
 
 pub const FRAME_BYTES: usize = 13;
 
+// The largest byte that is a kind.
+const KIND_LIMIT: u8 = 1;
+
 // How many filters and frames there are, and where the first of each stands.
 #[derive(Clone, Copy, Debug, PartialEq, Eq)]
 pub struct Sections {
@@ -48,7 +51,7 @@ fn read_filters(file: &[u8], filters: usize) -> Result<(), Refusal>
     for i in 0..filters {
         let at = 1 + FILTER_BYTES * i;
         field(len, at, 1)?;
-        if file[at] > 1 {
+        if file[at] > KIND_LIMIT {
             return Err(Refusal::FilterKind(at));
         }
         field(len, at + 1, FILTER_BYTES - 1)?;

@@ -148,6 +148,7 @@ fn with_data(mut frame: [u8; 13], start: usize, data: &[u8]) -> [u8; 13]
     frame
 }
 
+#[inline(always)]
 pub fn build(
     way: Way,
     id: Id,

@@ -68,7 +68,8 @@ impl ExtendedId {
     pub fn as_raw(self) -> u32
         ensures { result ≡ self.0 }
     {
-        self.0
+        let ExtendedId(raw) = self;
+        raw
     }
 
     // The base identifier: ID-28 to ID-18.
