@@ -1,10 +1,11 @@
 -- The answer of an exported function: the outline's answer as two numbers, and what the exports alone judge.
 -- Source: the outline, "Refusals by number", 6 and 14, and "What changes shape".
-use Rattle.std.specs.Prelude.{ℕ, Bool, cond, List, [], ◌∷◌, eqb, length, replicate}
+use Rattle.std.specs.Prelude.{ℕ, Bool, cond, List, [], ◌∷◌, eqb, length, replicate, Result}
 use Rattle.laws.specs.Row.{bit}
 use Rattle.laws.specs.Said.{Said, refuses, gives}
 use Rattle.laws.specs.Laid.{laying, written}
-use Rattle.refusals.specs.Table.{in_one}
+use Rattle.refusals.specs.Table.{answer_said, in_one}
+use Rattle.refusals.specs.declared.Refusal.{Refusal}
 use Rattle.abi_answers.specs.declared.Answer.{Answer}
 
 -- number 0 and what is given, or the refusal's number and the numbers that it carries, in one
@@ -27,6 +28,9 @@ whole = sized 13
 -- a slice in the front of n zeros, where there is room for it
 abbrev pub laid_into : ℕ → List ℕ → List ℕ
 laid_into n slice = written (laying slice (replicate n 0)) slice (replicate n 0)
+
+abbrev pub delivery_said : Result ℕ Refusal → Said ℕ
+delivery_said = answer_said (λ value. value)
 
 -- an answer with bytes beside it, delivered into a lent slice of n bytes
 abbrev pub delivering : ℕ → ℕ → List ℕ → Said ℕ × List ℕ → Said ℕ

@@ -1,12 +1,12 @@
 // What an exported function answers, and bytes in and out of lent slices.
 #![tactic(auto)]
 
-ghost use Rattle.std.specs.Prelude.{◌≡◌, [], ◌∷◌, length};
+ghost use Rattle.std.specs.Prelude.{◌≡◌, ◌≢◌, MatchResult, [], ◌∷◌, length};
 ghost use Rattle.laws.specs.Said.{gives, refuses};
 ghost use Rattle.laws.specs.Row.{bit};
 ghost use Rattle.laws.specs.Laid.{laid_first, laying, written};
 ghost use Rattle.refusals.specs.Table.{refusal_said, answer_said, bytes_said};
-ghost use Rattle.abi_answers.specs.Answers.{answer_of, laid_into, delivering, delivery_leaves};
+ghost use Rattle.abi_answers.specs.Answers.{answer_of, laid_into, delivery_said, delivering, delivery_leaves};
 
 use refusals::Refusal;
 
@@ -63,15 +63,52 @@ pub fn lay(bytes: &[u8], out: &mut [u8]) -> Answer
 }
 
 // A slice as an array of so many bytes.
+#[inline(always)]
 pub fn array<const N: usize>(slice: &[u8]) -> [u8; N]
     ensures { result ≡ laid_into N slice.now }
 {
     let mut bytes = [0; N];
-    lay(slice, &mut bytes);
+    if slice.len() == N {
+        bytes.copy_from_slice(slice);
+    } else {
+        lay(slice, &mut bytes);
+    }
     bytes
 }
 
+// A slice as an array where it stands; one of another length is refused, as the argument of this number.
+#[inline(always)]
+pub fn sized<const N: usize>(slice: &[u8], argument: usize) -> Result<&[u8; N], Refusal>
+    ensures { MatchResult result (λ array. (array.now ≡ slice.now) × (length slice.now ≡ N))
+        (λ refusal. (refusal ≡ Refusal.WrongLength argument) × (length slice.now ≢ N)) }
+{
+    <&[u8; N]>::try_from(slice).map_err(|_| Refusal::WrongLength(argument))
+}
+
+// The answer, and the bytes beside it in a lent slice, the argument of this number: it is as long as they are, or it is refused.
+pub fn deliver(
+    delivery: Result<u64, Refusal>,
+    bytes: &[u8],
+    argument: usize,
+    out: &mut [u8],
+) -> Answer
+    ensures value { result ≡ answer_of (delivering (length bytes.now) argument out.old (delivery_said delivery, bytes.now)) }
+    ensures out_after { out.new ≡ delivery_leaves (length bytes.now) argument out.old (delivery_said delivery, bytes.now) }
+{
+    if out.len() != bytes.len() {
+        return wrong_length(argument);
+    }
+    match delivery {
+        Ok(value) => {
+            out.copy_from_slice(bytes);
+            given(value)
+        }
+        Err(refusal) => refused(refusal),
+    }
+}
+
 // Bytes into a slice of their length.
+#[inline(always)]
 fn fill<const N: usize>(bytes: &[u8; N], out: &mut [u8]) -> Answer
     requires { length out.old ≡ N }
     ensures value { result ≡ answer_of (gives N) }
@@ -81,8 +118,9 @@ fn fill<const N: usize>(bytes: &[u8; N], out: &mut [u8]) -> Answer
     given(N as u64)
 }
 
-// The bytes that a call under an export makes, in a lent slice, the argument of this number: it is as long as they are, or it is refused.
-pub fn deliver<const N: usize>(
+// The bytes that a call under an export makes, in a lent slice likewise, and their number as the answer.
+#[inline(always)]
+pub fn deliver_bytes<const N: usize>(
     made: Result<[u8; N], Refusal>,
     argument: usize,
     out: &mut [u8],

@@ -26,6 +26,7 @@ fn id_of(extended: bool, raw: u32) -> Result<Id, Refusal>
 }
 
 // What is built of plain numbers.
+#[inline(always)]
 fn built(
     way: Way,
     extended: bool,
@@ -60,7 +61,7 @@ fn build(
         return abi_answers::wrong_length(argument);
     }
     let made = built(way, extended, id, remote, own, dlc, data);
-    abi_answers::deliver(made, argument, frame)
+    abi_answers::deliver_bytes(made, argument, frame)
 }
 
 #[unsafe(no_mangle)]

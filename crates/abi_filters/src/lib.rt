@@ -22,7 +22,7 @@ pub extern "C" fn chherbolat_single_standard_filter_new(
     ensures value { result ≡ answer_of (delivering 8 4 registers.old (compile_of single_standard (id.now ∷ rtr.now ∷ first.now ∷ second.now ∷ []))) }
     ensures registers_after { registers.new ≡ delivery_leaves 8 4 registers.old (compile_of single_standard (id.now ∷ rtr.now ∷ first.now ∷ second.now ∷ [])) }
 {
-    abi_answers::deliver(
+    abi_answers::deliver_bytes(
         SingleStandardFilter::new(id, rtr, first, second),
         4,
         registers,
@@ -38,7 +38,7 @@ pub extern "C" fn chherbolat_single_extended_filter_new(
     ensures value { result ≡ answer_of (delivering 8 2 registers.old (compile_of single_extended (id.now ∷ rtr.now ∷ []))) }
     ensures registers_after { registers.new ≡ delivery_leaves 8 2 registers.old (compile_of single_extended (id.now ∷ rtr.now ∷ [])) }
 {
-    abi_answers::deliver(SingleExtendedFilter::new(id, rtr), 2, registers)
+    abi_answers::deliver_bytes(SingleExtendedFilter::new(id, rtr), 2, registers)
 }
 
 #[unsafe(no_mangle)]
@@ -53,7 +53,7 @@ pub extern "C" fn chherbolat_dual_standard_filter_new(
     ensures value { result ≡ answer_of (delivering 8 5 registers.old (compile_of dual_standard (first_id.now ∷ first_rtr.now ∷ first_payload.now ∷ second_id.now ∷ second_rtr.now ∷ []))) }
     ensures registers_after { registers.new ≡ delivery_leaves 8 5 registers.old (compile_of dual_standard (first_id.now ∷ first_rtr.now ∷ first_payload.now ∷ second_id.now ∷ second_rtr.now ∷ [])) }
 {
-    abi_answers::deliver(
+    abi_answers::deliver_bytes(
         DualStandardFilter::new(first_id, first_rtr, first_payload, second_id, second_rtr),
         5,
         registers,
@@ -69,5 +69,5 @@ pub extern "C" fn chherbolat_dual_extended_filter_new(
     ensures value { result ≡ answer_of (delivering 8 2 registers.old (compile_of dual_extended (first.now ∷ second.now ∷ []))) }
     ensures registers_after { registers.new ≡ delivery_leaves 8 2 registers.old (compile_of dual_extended (first.now ∷ second.now ∷ [])) }
 {
-    abi_answers::deliver(DualExtendedFilter::new(first, second), 2, registers)
+    abi_answers::deliver_bytes(DualExtendedFilter::new(first, second), 2, registers)
 }

@@ -28,7 +28,7 @@ pub extern "C" fn chherbolat_single_standard_filter_new_from_code_mask(
     ensures value { result ≡ answer_of (delivering 8 8 registers.old (code_mask_of single_standard (id_code ∷ bit rtr_code ∷ first_code ∷ second_code ∷ []) (id_mask ∷ bit rtr_mask ∷ first_mask ∷ second_mask ∷ []))) }
     ensures registers_after { registers.new ≡ delivery_leaves 8 8 registers.old (code_mask_of single_standard (id_code ∷ bit rtr_code ∷ first_code ∷ second_code ∷ []) (id_mask ∷ bit rtr_mask ∷ first_mask ∷ second_mask ∷ [])) }
 {
-    abi_answers::deliver(
+    abi_answers::deliver_bytes(
         SingleStandardFilter::new_from_code_mask(
             StandardId(id_code),
             StandardId(id_mask),
@@ -55,7 +55,7 @@ pub extern "C" fn chherbolat_single_extended_filter_new_from_code_mask(
     ensures value { result ≡ answer_of (delivering 8 4 registers.old (code_mask_of single_extended (id_code ∷ bit rtr_code ∷ []) (id_mask ∷ bit rtr_mask ∷ []))) }
     ensures registers_after { registers.new ≡ delivery_leaves 8 4 registers.old (code_mask_of single_extended (id_code ∷ bit rtr_code ∷ []) (id_mask ∷ bit rtr_mask ∷ [])) }
 {
-    abi_answers::deliver(
+    abi_answers::deliver_bytes(
         SingleExtendedFilter::new_from_code_mask(
             ExtendedId(id_code),
             ExtendedId(id_mask),
@@ -84,7 +84,7 @@ pub extern "C" fn chherbolat_dual_standard_filter_new_from_code_mask(
     ensures value { result ≡ answer_of (delivering 8 10 registers.old (code_mask_of dual_standard (first_id_code ∷ bit first_rtr_code ∷ first_payload_code ∷ second_id_code ∷ bit second_rtr_code ∷ []) (first_id_mask ∷ bit first_rtr_mask ∷ first_payload_mask ∷ second_id_mask ∷ bit second_rtr_mask ∷ []))) }
     ensures registers_after { registers.new ≡ delivery_leaves 8 10 registers.old (code_mask_of dual_standard (first_id_code ∷ bit first_rtr_code ∷ first_payload_code ∷ second_id_code ∷ bit second_rtr_code ∷ []) (first_id_mask ∷ bit first_rtr_mask ∷ first_payload_mask ∷ second_id_mask ∷ bit second_rtr_mask ∷ [])) }
 {
-    abi_answers::deliver(
+    abi_answers::deliver_bytes(
         DualStandardFilter::new_from_code_mask(
             StandardId(first_id_code),
             StandardId(first_id_mask),
@@ -113,7 +113,7 @@ pub extern "C" fn chherbolat_dual_extended_filter_new_from_code_mask(
     ensures value { result ≡ answer_of (delivering 8 4 registers.old (code_mask_of dual_extended (first_code ∷ second_code ∷ []) (first_mask ∷ second_mask ∷ []))) }
     ensures registers_after { registers.new ≡ delivery_leaves 8 4 registers.old (code_mask_of dual_extended (first_code ∷ second_code ∷ []) (first_mask ∷ second_mask ∷ [])) }
 {
-    abi_answers::deliver(
+    abi_answers::deliver_bytes(
         DualExtendedFilter::new_from_code_mask(first_code, second_code, first_mask, second_mask),
         4,
         registers,
