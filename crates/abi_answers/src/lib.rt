@@ -108,7 +108,6 @@ pub fn deliver(
 }
 
 // Bytes into a slice of their length.
-#[inline(always)]
 fn fill<const N: usize>(bytes: &[u8; N], out: &mut [u8]) -> Answer
     requires { length out.old ≡ N }
     ensures value { result ≡ answer_of (gives N) }
@@ -119,7 +118,6 @@ fn fill<const N: usize>(bytes: &[u8; N], out: &mut [u8]) -> Answer
 }
 
 // The bytes that a call under an export makes, in a lent slice likewise, and their number as the answer.
-#[inline(always)]
 pub fn deliver_bytes<const N: usize>(
     made: Result<[u8; N], Refusal>,
     argument: usize,

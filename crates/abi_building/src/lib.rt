@@ -26,7 +26,6 @@ fn id_of(extended: bool, raw: u32) -> Result<Id, Refusal>
 }
 
 // What is built of plain numbers.
-#[inline(always)]
 fn built(
     way: Way,
     extended: bool,

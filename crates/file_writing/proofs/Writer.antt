@@ -11,7 +11,9 @@ use borrow.Rule.Slice.PartMut.{put_mid}
 use Rattle.laws.specs.Said.{gives}
 use Rattle.laws.specs.Laid.{laid_first, laid}
 use Rattle.laws.proofs.Said.{passed, gives_same}
-use Rattle.laws.proofs.Laid.{set-laid, laid_then, lent_laid, length-laid}
+use Rattle.laws.proofs.Laid.{set-laid, set_then, laid_then, lent_laid, length-laid}
+use Rattle.text.specs.Put.{put_at}
+use Rattle.text.proofs.Put.{text-put}
 use Rattle.file_reading.specs.Format.{filter_limit, frame_limit, filter_bytes, frame_bytes}
 use Rattle.file_writing.specs.Writer.{filter_count, frame_count, first_bad_kind, bad_kind, needed, write_of}
 
@@ -43,6 +45,14 @@ module _ (filters : List ℕ) where
   kinds-end n i w p h =
       let e : n - i ≡ 0 = omega arith in
       rw e at h
+
+-- ---- two stores, and a text put behind them
+pub second-laid : (frames out e : List ℕ) (h l : ℕ) → 2 + length frames ≤ length out
+    → e ≡ put_at 2 frames (set (set out 0 h) 1 l) → e ≡ laid_first (h ∷ l ∷ frames) out
+second-laid frames out e h l r p =
+    text-put 2 frames (set (set out 0 h) 1 l) e p (simp length-set (omega arith))
+    ∙ ap (laid 2 frames) (ap (λ (x : List ℕ). set x 1 l) (set-laid 0 h out (omega arith)) ∙ set_then 1 l 0 (h ∷ []) out refl (omega arith))
+    ∙ laid_then 2 0 (h ∷ l ∷ []) frames out refl (omega arith)
 
 -- ---- a store, a text laid into the rest, and another into the rest of that
 module _ (filters second out : List ℕ) (n : ℕ) (room : 1 + length filters + length second ≤ length out) where

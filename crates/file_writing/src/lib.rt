@@ -54,7 +54,7 @@ fn write_filters(filters: &[u8], rest: &mut [u8])
     requires { length filters.now ≤ length rest.old }
     ensures { rest.new ≡ laid_first filters.now rest.old }
 {
-    rest[..filters.len()].copy_from_slice(filters);
+    text::put_text(rest, 0, filters);
 }
 
 // The frame count and the frames, into the output after the filters.
@@ -65,7 +65,7 @@ fn write_frames(frames: &[u8], rest: &mut [u8])
     let count = frames.len() / FRAME_BYTES;
     rest[0] = (count / 256) as u8;
     rest[1] = (count % 256) as u8;
-    rest[2..2 + frames.len()].copy_from_slice(frames);
+    text::put_text(rest, 2, frames);
 }
 
 fn write_sections(filters: &[u8], frames: &[u8], out: &mut [u8])

@@ -148,7 +148,6 @@ fn with_data(mut frame: [u8; 13], start: usize, data: &[u8]) -> [u8; 13]
     frame
 }
 
-#[inline(always)]
 pub fn build(
     way: Way,
     id: Id,
