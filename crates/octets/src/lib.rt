@@ -39,6 +39,7 @@ pub fn word_at(slice: &[u8], at: usize) -> u32
 }
 
 // So many bytes from a place on; zeros where there are fewer.
+#[tactic(auto, using(crate::proofs::Part::copied))]
 pub fn array_at<const N: usize>(bytes: &[u8], at: usize) -> [u8; N]
     ensures { result ≡ part_or_zeros N at bytes.now }
 {

@@ -5,6 +5,9 @@ use mathlib.Core.List.{List, [], map}
 use lib.ListN.{length, get_or, get_or-map, length-map}
 use native.Mathlib.Omega.{arith}
 use denote.Ref.{Bor}
+use Rattle.laws.specs.Said.{Said}
+use Rattle.refusals.specs.Table.{refusal_said}
+use Rattle.refusals.specs.declared.Refusal.TheVariants.{PatternByte}
 use Rattle.filter_characters.proofs.Characters.{first-there, first-none}
 use Rattle.filter_compilers.proofs.Joined.{good-said, characters-next, characters-found, in-joined}
 use Rattle.filter_compilers.proofs.judge_characters.Goals as goal
@@ -20,6 +23,10 @@ pattern-at patterns k = get_or-map (λ p. p.now) patterns k record { ref_ptr = (
 
 among : (patterns : List (Bor (List ℕ))) (k : ℕ) → k < length patterns → k < length (patterns_of patterns)
 among patterns k h = omega (arith, length-map patterns (λ p. p.now))
+
+-- a field that is told by an equal number
+named : (n k place byte : ℕ) (said : Said ℕ) → n ≡ k → refusal_said (PatternByte k place byte) ≡ said → refusal_said (PatternByte n place byte) ≡ said
+named n k place byte said e h = rw e h
 
 pub returns-then-all_known : goal.returns-then-all_known
 returns-then-all_known c =
@@ -37,7 +44,8 @@ returns-in-Some c =
     let patterns = c.args.patterns.now in
     let k = c.loop-field.field in
     let first = first-there (pattern_at patterns k) _ (sym c.in-Some.ensures) in
-    sym (c.loop-field.invariant ∙ characters-found k (patterns_of patterns) _ (among patterns k c.loop-field-test.true) (pattern-at patterns k) _ first.0 first.1)
+    let known = sym (c.loop-field.invariant ∙ characters-found k (patterns_of patterns) _ (among patterns k c.loop-field-test.true) (pattern-at patterns k) _ first.0 first.1) in
+    named _ k _ _ _ (grind arith) known
 
 pub loop-field-preserved : goal.loop-field-preserved
 loop-field-preserved c =
