@@ -87,6 +87,13 @@ matched dual code mask registers frame shown c m s =
     ∙ ap (agrees_of dual (code_in registers) (mask_in registers)) s
     ∙ agrees-is registers frame (subst (λ (x : ℕ). x < 2 ^ 32) c.0 c.1) (subst (λ (x : ℕ). x < 2 ^ 32) m.0 m.1) dual
 
+pub compared : (kind code mask : ℕ) (registers frame : List ℕ) (shown : Shown) → (code ≡ code_in registers) × (code < 2 ^ 32)
+    → (mask ≡ mask_in registers) × (mask < 2 ^ 32) → shown ≡ show_of frame → compare_of kind code mask shown ≡ match_of kind registers frame
+compared kind code mask registers frame shown c m s =
+    ap₂ (λ (x y : ℕ). compare_of kind x y shown) c.0 m.0
+    ∙ ap (compare_of kind (code_in registers) (mask_in registers)) s
+    ∙ compare-is registers frame (subst (λ (x : ℕ). x < 2 ^ 32) c.0 c.1) (subst (λ (x : ℕ). x < 2 ^ 32) m.0 m.1) kind
+
 -- ---- the compare of a dual filter: the first half, and the second where the first does not agree
 pub by_first : (kind code mask m : ℕ) (shown : Shown) → kind ≡ 1 → m ≡ miss_of code mask shown.dual shown.first → m ≡ 0
     → gives true ≡ compare_of kind code mask shown
