@@ -29,6 +29,10 @@ whole = sized 13
 abbrev pub laid_into : ℕ → List ℕ → List ℕ
 laid_into n slice = written (laying slice (replicate n 0)) slice (replicate n 0)
 
+-- a slice lent on as an array of n bytes, the argument of this number: what stands there, or refusal 14
+abbrev pub lent_said : ℕ → ℕ → List ℕ → Said (List ℕ)
+lent_said n argument slice = cond (eqb (length slice) n) (gives slice) (refuses 14 (argument ∷ []))
+
 abbrev pub delivery_said : Result ℕ Refusal → Said ℕ
 delivery_said = answer_said (λ value. value)
 

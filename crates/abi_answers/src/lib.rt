@@ -6,7 +6,7 @@ ghost use Rattle.laws.specs.Said.{gives, refuses};
 ghost use Rattle.laws.specs.Row.{bit};
 ghost use Rattle.laws.specs.Laid.{laid_first, laying, written};
 ghost use Rattle.refusals.specs.Table.{refusal_said, answer_said, bytes_said};
-ghost use Rattle.abi_answers.specs.Answers.{answer_of, laid_into, delivery_said, delivering, delivery_leaves};
+ghost use Rattle.abi_answers.specs.Answers.{answer_of, laid_into, lent_said, delivery_said, delivering, delivery_leaves};
 
 use refusals::Refusal;
 
@@ -79,13 +79,15 @@ pub fn array<const N: usize>(slice: &[u8]) -> [u8; N]
 // A slice as an array where it stands; one of another length is refused, as the argument of this number.
 #[inline(always)]
 pub fn sized<const N: usize>(slice: &[u8], argument: usize) -> Result<&[u8; N], Refusal>
-    ensures { MatchResult result (λ array. (array.now ≡ slice.now) × (length slice.now ≡ N))
+    ensures cases { MatchResult result (λ array. (array.now ≡ slice.now) × (length slice.now ≡ N))
         (λ refusal. (refusal ≡ Refusal.WrongLength argument) × (length slice.now ≢ N)) }
+    ensures told { answer_said (λ array. array.now) result ≡ lent_said N argument slice.now }
 {
     <&[u8; N]>::try_from(slice).map_err(|_| Refusal::WrongLength(argument))
 }
 
 // The answer, and the bytes beside it in a lent slice, the argument of this number: it is as long as they are, or it is refused.
+#[inline(always)]
 pub fn deliver(
     delivery: Result<u64, Refusal>,
     bytes: &[u8],
@@ -107,16 +109,6 @@ pub fn deliver(
     }
 }
 
-// Bytes into a slice of their length.
-fn fill<const N: usize>(bytes: &[u8; N], out: &mut [u8]) -> Answer
-    requires { length out.old ≡ N }
-    ensures value { result ≡ answer_of (gives N) }
-    ensures out_after { out.new ≡ laid_first bytes.now out.old }
-{
-    out.copy_from_slice(bytes);
-    given(N as u64)
-}
-
 // The bytes that a call under an export makes, in a lent slice likewise, and their number as the answer.
 pub fn deliver_bytes<const N: usize>(
     made: Result<[u8; N], Refusal>,
@@ -126,11 +118,8 @@ pub fn deliver_bytes<const N: usize>(
     ensures value { result ≡ answer_of (delivering N argument out.old (bytes_said N made.entry)) }
     ensures out_after { out.new ≡ delivery_leaves N argument out.old (bytes_said N made.entry) }
 {
-    if out.len() != N {
-        return wrong_length(argument);
-    }
     match made {
-        Ok(bytes) => fill(&bytes, out),
-        Err(refusal) => refused(refusal),
+        Ok(bytes) => deliver(Ok(N as u64), &bytes, argument, out),
+        Err(refusal) => deliver(Err(refusal), &[0; N], argument, out),
     }
 }

@@ -3,13 +3,14 @@
 use Prim.Native.Nat.{ℕ, ◌<◌}
 use mathlib.Core.Path.{◌≡◌, refl, ap, sym, ◌∙◌}
 use mathlib.Core.Bool.{Bool, true, false, cond}
-use mathlib.Core.List.{List, []}
-use lib.Dec.{leb}
+use mathlib.Core.List.{List, [], ◌∷◌}
+use lib.Dec.{leb, eqb}
 use lib.ListN.{length, replicate}
 use native.Mathlib.Omega.{arith}
 use borrow.Author.Tests.{lt-leb, leb-false}
 use Rattle.std.specs.Prelude.{Ok, Err}
-use Rattle.laws.specs.Said.{refuses}
+use Rattle.laws.specs.Said.{Said, refuses, gives}
+use Rattle.laws.specs.Laid.{written}
 use Rattle.refusals.specs.declared.Refusal.{Refusal}
 use Rattle.refusals.specs.Table.{refusal_said}
 use Rattle.refusals.specs.declared.Refusal.TheVariants.{IdentifierAboveLimit}
@@ -17,9 +18,10 @@ use Rattle.identifiers.specs.declared.Id.{Id}
 use Rattle.identifiers.specs.Limits.{limit_of, is_extended, raw_of}
 use Rattle.identifiers.specs.declared.Id.TheVariants.{Standard, Extended}
 use Rattle.frame_reading.specs.Buffer.{Frame}
-use Rattle.frame_building.specs.Building.{in_order, non_compliant_by, judge_by, build_by, most_of, build_in, asked}
+use Rattle.frame_building.specs.Building.{in_order, non_compliant_by, judge_by, build_by, most_of, build_in, built_over, asked}
 use Rattle.frame_building.specs.declared.Way.{Way}
 use Rattle.frame_building.proofs.Judged.{way-built}
+use Rattle.abi_answers.specs.Answers.{sized, delivery_leaves}
 use Rattle.abi_building.specs.Building.{id_from, plain}
 
 above : (wrong_code format : Bool) (id : ℕ) (remote : Bool) (code length : ℕ) → limit_of format < id
@@ -64,3 +66,15 @@ unfolding judge_by build_by
 none-built way f r e =
     let wrong = non_compliant_by (most_of way) f.remote f.code (length f.payload) in
     rw (way-built way f, no-id f.extended f.id r e wrong f.remote f.code (length f.payload))
+
+-- a buffer that was built into stands beside the answer as the frame does: after a refusal neither is delivered
+pub laid-over : (argument : ℕ) (slice bytes before : List ℕ) (said : Said ℕ) (a : Said ℕ × List ℕ) → said ≡ a.0 → bytes ≡ built_over a before
+    → delivery_leaves 13 argument slice (said, bytes) ≡ delivery_leaves 13 argument slice a
+unfolding sized written
+laid-over argument slice bytes before said (refuses number carried, frame) told laid = rw told (by (eqb (length slice) 13))
+  where
+    by : (fits : Bool) → written (cond fits (refuses number carried) (refuses 14 (argument ∷ []))) bytes slice
+        ≡ written (cond fits (refuses number carried) (refuses 14 (argument ∷ []))) frame slice
+    by true = refl
+    by false = refl
+laid-over argument slice bytes before said (gives n, frame) told laid = rw (told, laid)

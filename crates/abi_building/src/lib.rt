@@ -2,7 +2,7 @@
 #![tactic(auto)]
 
 ghost use Rattle.std.specs.Prelude.{◌≡◌, true, false};
-ghost use Rattle.frame_building.specs.Building.{build_in, built_said};
+ghost use Rattle.frame_building.specs.Building.{build_in, built_over, building_said};
 ghost use Rattle.frame_building.specs.declared.Way.TheVariants.{Iso};
 ghost use Rattle.abi_answers.specs.Answers.{answer_of};
 ghost use Rattle.abi_building.specs.Building.{id_from, plain, plain_data, building_in, building_in_leaves, building, building_leaves};
@@ -25,7 +25,7 @@ fn id_of(extended: bool, raw: u32) -> Result<Id, Refusal>
     Err(Refusal::IdentifierAboveLimit)
 }
 
-// What is built of plain numbers.
+// What is built of plain numbers, into a buffer, which stays as it was after a refusal.
 fn built(
     way: Way,
     extended: bool,
@@ -34,11 +34,16 @@ fn built(
     own: bool,
     dlc: usize,
     data: &[u8],
-) -> Result<[u8; 13], Refusal>
-    ensures { built_said result ≡ build_in way (plain extended id remote own dlc «data».now) }
+    frame: &mut [u8; 13],
+) -> Result<(), Refusal>
+    ensures value { building_said result ≡ (build_in way (plain extended id remote own dlc «data».now)).0 }
+    ensures frame_after { frame.new ≡ built_over (build_in way (plain extended id remote own dlc «data».now)) frame.old }
 {
-    let id = id_of(extended, id)?;
-    frame_building::build(way, id, remote, own, dlc, data)
+    // With `?` here the exports take ten instructions more.
+    match id_of(extended, id) {
+        Ok(id) => frame_building::build_into(way, id, remote, own, dlc, data, frame),
+        Err(refusal) => Err(refusal),
+    }
 }
 
 // The same into a lent frame, the argument of this number.
@@ -59,8 +64,9 @@ fn build(
     if frame.len() != 13 {
         return abi_answers::wrong_length(argument);
     }
-    let made = built(way, extended, id, remote, own, dlc, data);
-    abi_answers::deliver_bytes(made, argument, frame)
+    let mut bytes = [0; 13];
+    let made = built(way, extended, id, remote, own, dlc, data, &mut bytes);
+    abi_answers::deliver(made.map(|()| 13), &bytes, argument, frame)
 }
 
 #[unsafe(no_mangle)]

@@ -8,7 +8,7 @@ ghost use Rattle.filter_list.specs.Pattern.{pattern_of};
 ghost use Rattle.filter_list.specs.Answers.{listed_of};
 ghost use Rattle.abi_answers.specs.Answers.{answer_of, delivering, delivery_leaves};
 
-use abi_answers::Answer;
+use abi_answers::{Answer, deliver};
 
 #[unsafe(no_mangle)]
 pub extern "C" fn chherbolat_filter_from_list(
@@ -25,10 +25,12 @@ pub extern "C" fn chherbolat_filter_from_list(
         return abi_answers::wrong_length(3);
     }
     match filter_list::from_list(extended, list, pattern) {
-        Ok(listed) => {
-            registers.copy_from_slice(&listed.registers);
-            abi_answers::given(u64::from(listed.through))
-        }
-        Err(refusal) => abi_answers::refused(refusal),
+        Ok(listed) => deliver(
+            Ok(u64::from(listed.through)),
+            &listed.registers,
+            3,
+            registers,
+        ),
+        Err(refusal) => deliver(Err(refusal), &[0; 8], 3, registers),
     }
 }

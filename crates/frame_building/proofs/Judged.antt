@@ -6,12 +6,14 @@ use mathlib.Core.Logic.{◌↔◌}
 use mathlib.Core.Bool.{Bool, true, false, not, ◌||◌, ◌&&◌, or-true}
 use mathlib.Core.List.{[]}
 use lib.Dec.{leb, ltb, eqb}
-use lib.ListN.{length}
+use lib.ListN.{length, replicate}
 use native.Mathlib.Omega.{arith}
 use borrow.Author.Tests.{ltb-true, ltb-false, leb-true, eqb-true, le-leb, le-ltb, lt-ltb, eq-eqb, ne_eqb, not-false}
 use Rattle.laws.specs.Said.{Said, gives}
 use Rattle.laws.proofs.Said.{passed}
 use Rattle.laws.proofs.Bools.{neither, or_no, not-both, and_no}
+use Rattle.refusals.specs.declared.Refusal.{Refusal}
+use Rattle.refusals.specs.Table.{refusal_said}
 use Rattle.identifiers.specs.Limits.{limit_of}
 use Rattle.frame_reading.specs.Buffer.{Frame}
 use Rattle.frame_building.specs.Buffer.{buffer_of}
@@ -126,6 +128,11 @@ way-good way f made = judged-good (most_of way) f (four-bits way) (ap (λ a. a.0
 
 pub way-gave : (way : Way) (f : Frame) → Good (most_of way) f → build_in way f ≡ (gives 13, buffer_of f)
 way-gave way f good = way-built way f ∙ accepted-build (most_of way) f good
+
+-- zeros stand beside a refusal
+pub way-refused : (way : Way) (f : Frame) (r : Refusal) → (build_in way f).0 ≡ refusal_said r → build_in way f ≡ (refusal_said r, replicate 13 0)
+unfolding build_by
+way-refused way f r h = way-built way f ∙ ap (λ (said : Said ℕ). answering said f) (ap (λ a. a.0) (sym (way-built way f)) ∙ h)
 
 -- what one of them accepts ISO 11898-1's does
 pub buildable-good : (f : Frame) → Buildable f ↔ Good (most_of Iso) f

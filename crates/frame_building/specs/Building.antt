@@ -77,6 +77,10 @@ building_said = answer_said (λ nothing. 13)
 abbrev pub built_said : Result (List ℕ) Refusal → Said ℕ × List ℕ
 built_said = bytes_said 13
 
+-- a lent buffer after building: the frame, or all as it was
+abbrev pub built_over : Said ℕ × List ℕ → List ℕ → List ℕ
+built_over a frame = cond (accepted a.0) a.1 frame
+
 -- the frame that a caller asks for
 abbrev pub asked : Id → Bool → Bool → ℕ → List ℕ → Frame
 asked id remote own code payload =

@@ -7,7 +7,7 @@ ghost use Rattle.laws.specs.Said.{refuses};
 ghost use Rattle.identifiers.specs.Limits.{limit_of, is_extended, raw_of};
 ghost use Rattle.frame_info.specs.Info.{data_start};
 ghost use Rattle.frame_building.specs.Buffer.{info_byte, buffer_of};
-ghost use Rattle.frame_building.specs.Building.{non_compliant, length_and_code, judge_by, build_of, most_of, build_in, building_said, built_said, asked, asked_data};
+ghost use Rattle.frame_building.specs.Building.{non_compliant, length_and_code, judge_by, build_of, most_of, build_in, built_over, building_said, built_said, asked, asked_data};
 
 use identifiers::Id;
 use octets::one_bit;
@@ -148,6 +148,25 @@ fn with_data(mut frame: [u8; 13], start: usize, data: &[u8]) -> [u8; 13]
     frame
 }
 
+// What is built, into a lent buffer, which stays as it was after a refusal.
+pub fn build_into(
+    way: Way,
+    id: Id,
+    remote: bool,
+    own: bool,
+    dlc: usize,
+    data: &[u8],
+    frame: &mut [u8; 13],
+) -> Result<(), Refusal>
+    ensures value { building_said result ≡ (build_in way (asked id remote own dlc «data».now)).0 }
+    ensures frame_after { frame.new ≡ built_over (build_in way (asked id remote own dlc «data».now)) frame.old }
+{
+    judge(way.most(), id, remote, dlc, data.len())?;
+    let front = front(id, remote, own, (dlc % 16) as u8);
+    *frame = with_data(front, data_start(id), data);
+    Ok(())
+}
+
 pub fn build(
     way: Way,
     id: Id,
@@ -158,9 +177,9 @@ pub fn build(
 ) -> Result<[u8; 13], Refusal>
     ensures { built_said result ≡ build_in way (asked id remote own dlc «data».now) }
 {
-    judge(way.most(), id, remote, dlc, data.len())?;
-    let frame = front(id, remote, own, (dlc % 16) as u8);
-    Ok(with_data(frame, data_start(id), data))
+    let mut frame = [0; 13];
+    build_into(way, id, remote, own, dlc, data, &mut frame)?;
+    Ok(frame)
 }
 
 pub fn new_from_parameters(
