@@ -50,8 +50,11 @@ pub extern "C" fn chherbolat_as_slice(frame: &[u8], out: &mut [u8]) -> Answer
     ensures value { result ≡ answer_of (taking (used_of frame.now) frame.now out.old) }
     ensures out_after { out.new ≡ taking_leaves (used_of frame.now) frame.now out.old }
 {
-    match sized(frame, 0) {
-        Ok(frame) => lay(frame_reading::as_slice(frame), out),
+    match sized::<13>(frame, 0) {
+        Ok(frame) => {
+            let bytes = *frame;
+            lay(frame_reading::as_slice(&bytes), out)
+        }
         Err(refusal) => refused(refusal),
     }
 }

@@ -10,4 +10,4 @@ pub returns-in-Ok : goal.returns-in-Ok
 unfolding identifier_of
 returns-in-Ok c =
     let number = ap (λ (i : Bool × ℕ). i.1) c.identifier.ensures.0 in
-    rw (sized-yes _ _ _ _ c.in-Ok.ensures.1, ← c.in-Ok.ensures.0, ← number) c.identifier_answer.ensures
+    rw (sized-yes _ _ _ _ c.in-Ok.ensures.cases.1, ← c.in-Ok.ensures.cases.0, ← number) c.identifier_answer.ensures
