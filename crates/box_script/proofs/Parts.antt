@@ -1,11 +1,12 @@
 -- A part of a list is its beginning and its rest, and texts of 14 numbers that stand one after the other are such parts. What is put together so is
 -- taken apart again. Assumes nothing.
-use Prim.Native.Nat.{ℕ, zero, suc, ◌+◌, ◌*◌, ◌<◌}
+use Prim.Native.Nat.{ℕ, zero, suc, ◌+◌, ◌-◌, ◌*◌, ◌<◌}
 use mathlib.Core.Path.{◌≡◌, refl, sym, ap, ap₂, ◌∙◌}
-use mathlib.Core.List.{List, [], ◌∷◌, ◌++◌}
-use lib.ListN.{length, get_or, take, drop}
+use mathlib.Core.List.{List, [], ◌∷◌, ◌++◌, append-nil}
+use lib.ListN.{length, get_or, set, take, drop, drop_of_length-le}
 use lib.Seq.{take_all, take_at, drop_at}
 use native.Mathlib.Omega.{arith}
+use borrow.Rule.Slice.PartMut.{put_mid}
 use Rattle.laws.specs.Tabulate.{tabulate, part}
 use Rattle.laws.proofs.Tabulate.{tabulate-ext, tabulate-same, tabulate-none, length-tabulate, part-is}
 use Rattle.box_script.specs.State.{joined}
@@ -102,3 +103,11 @@ module _ (l : List ℕ) where
 
 pub part-whole : (n : ℕ) (l : List ℕ) → length l ≡ n → part l 0 n ≡ l
 part-whole n l e = sym (part-is n 0 l (omega arith)) ∙ take_all n l (omega arith)
+
+-- thirteen bytes laid behind a first that was set
+pub behind-first : (first : ℕ) (out beside : List ℕ) → length out ≡ 14 → length beside ≡ 13
+    → put_mid 1 (length (set out 0 first) - 1) (set out 0 first) beside ≡ first ∷ part beside 0 13
+behind-first first [] beside h k = absurd (omega (arith, h))
+behind-first first (x ∷ rest) beside h k =
+    let none : drop (length (first ∷ rest) - 1) rest ≡ [] = drop_of_length-le rest (omega arith) in
+    ap (λ (t : List ℕ). first ∷ t) (ap (λ (t : List ℕ). beside ++ t) none ∙ append-nil beside ∙ sym (part-whole 13 beside k))

@@ -35,7 +35,7 @@ pub(crate) fn take_bytes(answer: Result<Option<Record>, Refusal>) -> [u8; 16]
     match answer {
         Ok(Some(oldest)) => {
             bytes[1] = 1;
-            bytes[2..].copy_from_slice(&oldest.to_bytes());
+            oldest.put(&mut bytes[2..]);
         }
         Ok(None) => {}
         Err(refusal) => bytes[0] = number_byte(refusal),
@@ -63,7 +63,7 @@ pub(crate) fn step_bytes(answer: Result<StepAnswer, Refusal>) -> [u8; 23]
                 Outcome::Done => {}
                 Outcome::Lost(lost) => {
                     bytes[1] = 1;
-                    bytes[3..3 + PART].copy_from_slice(&lost.to_bytes());
+                    lost.put(&mut bytes[3..3 + PART]);
                 }
                 Outcome::Finished(finished) => {
                     bytes[1] = 2;

@@ -21,19 +21,20 @@ pub(crate) trait Part: Copy {
         requires { at + 14 ≤ length script.now }
         ensures { result ≡ part_read limit part_at script.now at };
 
-    fn to_bytes(self) -> [u8; PART]
-        ensures { result ≡ text self };
+    fn put(self, out: &mut [u8])
+        requires { length out.old ≡ 14 }
+        ensures { out.new ≡ text self };
 
     ghost long: { (x : Self) → length (text x) ≡ 14 };
 }
 
 // Thirteen bytes behind one.
-fn fourteen(first: u8, beside: [u8; 13]) -> [u8; PART]
-    ensures { result ≡ first ∷ part beside 0 13 }
+fn put_fourteen(first: u8, beside: &[u8; 13], out: &mut [u8])
+    requires { length out.old ≡ 14 }
+    ensures { out.new ≡ first ∷ part beside.now 0 13 }
 {
-    let mut bytes = [first; PART];
-    bytes[1..].copy_from_slice(&beside);
-    bytes
+    out[0] = first;
+    out[1..].copy_from_slice(beside);
 }
 
 impl Part for Entry {
@@ -57,8 +58,8 @@ impl Part for Entry {
         })
     }
 
-    fn to_bytes(self) -> [u8; PART] {
-        fourteen(octets::one_bit(self.mark), self.bytes)
+    fn put(self, out: &mut [u8]) {
+        put_fourteen(octets::one_bit(self.mark), &self.bytes, out);
     }
 }
 
@@ -79,8 +80,8 @@ impl Part for Record {
         })
     }
 
-    fn to_bytes(self) -> [u8; PART] {
-        fourteen(u8::from(self.kind), self.bytes)
+    fn put(self, out: &mut [u8]) {
+        put_fourteen(u8::from(self.kind), &self.bytes, out);
     }
 }
 
@@ -102,6 +103,6 @@ pub(crate) fn put_parts<P: Part>(parts: &[P], out: &mut [u8])
     ensures { out.new ≡ flat_map P.text parts.now }
 {
     for (i, part) in parts.iter().enumerate() {
-        out[PART * i..PART * i + PART].copy_from_slice(&part.to_bytes());
+        part.put(&mut out[PART * i..PART * i + PART]);
     }
 }

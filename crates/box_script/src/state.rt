@@ -67,6 +67,6 @@ pub(crate) fn put_state(state: &ReceiveBox, out: &mut [u8])
     out[1347] = low(state.queue.head);
     out[1348] = low(state.queue.count);
     out[1349] = u8::from(state.phase);
-    out[1350..1364].copy_from_slice(&state.held.to_bytes());
+    state.held.put(&mut out[1350..1364]);
     put_words(state.words, &mut out[1364..1376]);
 }

@@ -25,8 +25,8 @@ slice_bounds-put_words-end c =
     let g = c.args.state.now in
     let es : c.put_parts.new.out ≡ entries_bytes g.fifo.entries = c.put_parts.ensures ∙ sym (joined-flat entry_bytes F.nowhere 64 g.fifo.entries (search rules)) in
     let ps : c.put_parts-2.new.out ≡ places_bytes g.queue.places = c.put_parts-2.ensures ∙ sym (joined-flat record_bytes Q.nowhere 32 g.queue.places (search rules)) in
-    let r : c.copy_from_slice.new.self ≡ record_bytes g.held = c.copy_from_slice.ensures.after ∙ c.to_bytes.ensures in
-    let room = steps-room c.args.out.now c.put_parts.new.out c.put_parts-2.new.out c.copy_from_slice.new.self c.copy_from_slice.new.self
+    let r : c.put.new.out ≡ record_bytes g.held = c.put.ensures in
+    let room = steps-room c.args.out.now c.put_parts.new.out c.put_parts-2.new.out c.put.new.out c.put.new.out
     c.low.result c.low-2.result c.low-3.result c.low-4.result c.low-5.result c.from.result c.requires
     (ap length es ∙ entries-long g.fifo.entries) (ap length ps ∙ places-long g.queue.places) (ap length r) in
     omega (arith, room)
@@ -37,8 +37,8 @@ returns c =
     let g = c.args.state.now in
     let es : c.put_parts.new.out ≡ entries_bytes g.fifo.entries = c.put_parts.ensures ∙ sym (joined-flat entry_bytes F.nowhere 64 g.fifo.entries (search rules)) in
     let ps : c.put_parts-2.new.out ≡ places_bytes g.queue.places = c.put_parts-2.ensures ∙ sym (joined-flat record_bytes Q.nowhere 32 g.queue.places (search rules)) in
-    let r : c.copy_from_slice.new.self ≡ record_bytes g.held = c.copy_from_slice.ensures.after ∙ c.to_bytes.ensures in
-    state-laid c.args.out.now c.put_parts.new.out c.put_parts-2.new.out c.copy_from_slice.new.self c.put_words.new.out
+    let r : c.put.new.out ≡ record_bytes g.held = c.put.ensures in
+    state-laid c.args.out.now c.put_parts.new.out c.put_parts-2.new.out c.put.new.out c.put_words.new.out
     c.low.result c.low-2.result c.low-3.result c.low-4.result c.low-5.result c.from.result c.requires
     (ap length es ∙ entries-long g.fifo.entries) (ap length ps ∙ places-long g.queue.places) (ap length r) (ap length c.put_words.ensures)
     ∙ state-told g _ _ _ _ _ _ _ _ _ _ es ps r c.put_words.ensures c.low.ensures c.low-2.ensures c.low-3.ensures c.low-4.ensures c.low-5.ensures c.from.ensures
