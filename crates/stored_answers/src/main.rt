@@ -5,26 +5,43 @@ mod compilers;
 mod replay;
 mod stored_text;
 
-use anyhow::Result;
+ghost use Rattle.std.specs.Prelude.{◌≤◌, length};
+
+use replay::Replay;
 use std::io::Read;
 
-// So much of standard input is read, and what came before a failure counts.
-const MOST: u64 = 64 << 20;
+// So many buffers of standard input are read, 64 MiB.
+const MOST: u64 = 1024;
 
-fn main(rt: HostRuntime) -> Result<()> {
-    let mut text = Vec::new(rt.alloc());
-    let _ = rt.stdin().take(MOST).read_to_end(&mut text);
-    let mut answers = 0u64;
-    let mut differ = 0u64;
-    for line in text.split_inclusive(|byte| *byte == b'\n') {
-        if line.starts_with(b"#") || !line.ends_with(b"\n") {
-            continue;
-        }
-        answers = answers.wrapping_add(1);
-        if !replay::agrees(rt.alloc(), line)? {
-            differ = differ.wrapping_add(1);
+// As much as the buffer holds, or what comes before the end or a failure.
+fn fill<R: Read>(input: &mut R, buffer: &mut [u8]) -> usize
+    ensures { result ≤ length buffer.new }
+{
+    let mut done = 0;
+    while done < buffer.len() {
+        match input.read(&mut buffer[done..]) {
+            Ok(more) if more > 0 => done += more,
+            _ => break,
         }
     }
+    done
+}
+
+fn main(rt: HostRuntime) {
+    let mut input = rt.stdin();
+    let mut buffer = [0u8; 0x1_0000];
+    let mut replay = Replay::new();
+    for _ in 0..MOST {
+        let length = fill(&mut input, &mut buffer);
+        if length == 0 {
+            break;
+        }
+        replay.read(&buffer[..length]);
+    }
+    let Replay {
+        answers,
+        differ,
+        ..
+    } = replay;
     let _ = println!(rt; "{answers} answers replayed, {differ} differ");
-    Ok(())
 }

@@ -1,9 +1,8 @@
 // Each stored answer of the Rust beside ours. A letter says which function, or functions, a line is about.
 use crate::compilers;
-use crate::stored_text::{Columns, decode};
+use crate::stored_text::{Columns, LONGEST, decode};
 use abi_answers::Answer;
-use anyhow::Result;
-use std::alloc::Global;
+use arrayvec::ArrayVec;
 
 fn given(answer: Answer, value: u64) -> bool {
     answer.number == 0 && answer.value == value
@@ -120,10 +119,10 @@ fn decided(columns: &mut Columns<'_>) -> bool {
 }
 
 // Whether a line's answer is ours too.
-pub(crate) fn agrees(alloc: Global, line: &[u8]) -> Result<bool> {
-    let bytes = decode(alloc, line)?;
+fn agrees(line: &[u8]) -> bool {
+    let bytes = decode(line);
     let columns = &mut Columns { rest: &bytes };
-    Ok(match line.first() {
+    match line.first() {
         Some(b's') => standard_id(columns),
         Some(b'e') => extended_id(columns),
         Some(b't') => base_id(columns),
@@ -136,5 +135,46 @@ pub(crate) fn agrees(alloc: Global, line: &[u8]) -> Result<bool> {
         Some(b'a') => matched(columns),
         Some(b'd') => decided(columns),
         _ => false,
-    })
+    }
+}
+
+// How far the replay is: the line so far, and what was counted.
+#[derive(Drop)]
+pub(crate) struct Replay {
+    line: ArrayVec<u8, LONGEST>,
+    pub(crate) answers: u64,
+    pub(crate) differ: u64,
+}
+
+impl Replay {
+    pub(crate) fn new() -> Replay {
+        Replay {
+            line: ArrayVec::new(),
+            answers: 0,
+            differ: 0,
+        }
+    }
+
+    fn count_line(&mut self) {
+        if self.line.starts_with(b"#") {
+            return;
+        }
+        self.answers = self.answers.wrapping_add(1);
+        if !agrees(&self.line) {
+            self.differ = self.differ.wrapping_add(1);
+        }
+    }
+
+    // What is read next; a line may begin in one text and end in another.
+    pub(crate) fn read(&mut self, text: &[u8]) {
+        for piece in text.split_inclusive(|byte| *byte == b'\n') {
+            for byte in piece {
+                let _ = self.line.try_push(*byte);
+            }
+            if piece.ends_with(b"\n") {
+                self.count_line();
+                self.line.clear();
+            }
+        }
+    }
 }

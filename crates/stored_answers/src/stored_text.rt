@@ -2,24 +2,28 @@
 ghost use Rattle.std.specs.Prelude.{◌≤◌, length};
 
 use abi_answers::Answer;
-use anyhow::Result;
-use std::alloc::Global;
+use arrayvec::ArrayVec;
 
 // No line is longer; of one that is, the beginning is read.
-const LONGEST: usize = 1280;
+pub(crate) const LONGEST: usize = 1280;
 
 fn is_digit(c: &u8) -> bool {
     matches!(c, b'0'..=b'9' | b'a'..=b'f')
 }
 
 // The bytes of a line's digits, whatever stands between them.
-pub(crate) fn decode(alloc: Global, line: &[u8]) -> Result<Vec<u8>> {
-    let mut digits = Vec::new(alloc);
-    for digit in line.iter().take(LONGEST).skip(1).copied().filter(is_digit) {
-        digits.push(digit)?;
+pub(crate) fn decode(line: &[u8]) -> ArrayVec<u8, 640> {
+    let mut digits = ArrayVec::<u8, LONGEST>::new();
+    for digit in line.iter().skip(1).copied().filter(is_digit) {
+        let _ = digits.try_push(digit);
     }
-    let even = digits.len() / 2 * 2;
-    Ok(hex::decode(alloc, &digits[..even])?)
+    let mut bytes = ArrayVec::new();
+    for pair in digits.chunks_exact(2) {
+        let mut byte = [0];
+        let _ = hex::decode_to_slice(pair, &mut byte);
+        let _ = bytes.try_push(byte[0]);
+    }
+    bytes
 }
 
 // The bytes of a line that are still to be read. Past the end a number is 0, and a part is empty.
