@@ -53,18 +53,24 @@ module _ (s : List ℕ) (at : ℕ) where
   unfolding entries
   no-entries e = none-loaded (judged ∙ rw e)
 
-  pub no-places : firsts_within 64 1 s at ≡ true → firsts_within 32 2 s (at + 899) ≡ false → load_at s at ≡ refuses 10 []
+  -- one part that is not within its limit is enough
+  last-no : (x y z : Bool) → (x && (y && (z && false))) ≡ false
+  last-no true true true = refl
+  last-no true true false = refl
+  last-no true false z = refl
+  last-no false y z = refl
+
+  pub no-places : firsts_within 32 2 s (at + 899) ≡ false → load_at s at ≡ refuses 10 []
   unfolding entries places
-  no-places e f = none-loaded (judged ∙ rw (e, f))
+  no-places f = none-loaded (judged ∙ rw f (last-no (firsts_within 64 1 s at) true true))
 
-  pub no_step : firsts_within 64 1 s at ≡ true → firsts_within 32 2 s (at + 899) ≡ true → leb (get_or s (at + 1349) 0) 7 ≡ false → load_at s at ≡ refuses 10 []
+  pub no_step : leb (get_or s (at + 1349) 0) 7 ≡ false → load_at s at ≡ refuses 10 []
   unfolding entries places step
-  no_step e f g = none-loaded (judged ∙ rw (e, f, g))
+  no_step g = none-loaded (judged ∙ rw g (last-no (firsts_within 64 1 s at) (firsts_within 32 2 s (at + 899)) true))
 
-  pub no_held : firsts_within 64 1 s at ≡ true → firsts_within 32 2 s (at + 899) ≡ true → leb (get_or s (at + 1349) 0) 7 ≡ true → leb (get_or s (at + 1350) 0) 2 ≡ false
-      → load_at s at ≡ refuses 10 []
+  pub no_held : leb (get_or s (at + 1350) 0) 2 ≡ false → load_at s at ≡ refuses 10 []
   unfolding entries places step held
-  no_held e f g h = none-loaded (judged ∙ rw (e, f, g, h))
+  no_held h = none-loaded (judged ∙ rw h (last-no (firsts_within 64 1 s at) (firsts_within 32 2 s (at + 899)) (leb (get_or s (at + 1349) 0) 7)))
 
   pub all-loaded : firsts_within 64 1 s at ≡ true → firsts_within 32 2 s (at + 899) ≡ true → leb (get_or s (at + 1349) 0) 7 ≡ true → leb (get_or s (at + 1350) 0) 2 ≡ true
       → load_at s at ≡ gives (state_at s at)

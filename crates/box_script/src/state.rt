@@ -27,15 +27,15 @@ pub(crate) fn read_state(script: &[u8], at: usize) -> Result<ReceiveBox, Refusal
     ensures { answer_said (λ g. g) result ≡ load_at script.now at }
 {
     let mut state = ReceiveBox::fresh();
+    state.phase = Phase::try_from(script[at + 1349])?;
+    state.held = Record::read(script, at + 1350)?;
+    read_parts(&mut state.queue.places, script, at + 899)?;
     read_parts(&mut state.fifo.entries, script, at)?;
     state.fifo.head = usize::from(script[at + 896]);
     state.fifo.count = usize::from(script[at + 897]);
     state.fifo.weight = usize::from(script[at + 898]);
-    read_parts(&mut state.queue.places, script, at + 899)?;
     state.queue.head = usize::from(script[at + 1347]);
     state.queue.count = usize::from(script[at + 1348]);
-    state.phase = Phase::try_from(script[at + 1349])?;
-    state.held = Record::read(script, at + 1350)?;
     state.words = words_at(script, at + 1364);
     Ok(state)
 }
