@@ -29,8 +29,8 @@ pub(crate) fn read_state(script: &[u8], at: usize) -> Result<ReceiveBox, Refusal
     let mut state = ReceiveBox::fresh();
     state.phase = Phase::try_from(script[at + 1349])?;
     state.held = Record::read(script, at + 1350)?;
-    read_parts(&mut state.queue.places, script, at + 899)?;
     read_parts(&mut state.fifo.entries, script, at)?;
+    read_parts(&mut state.queue.places, script, at + 899)?;
     state.fifo.head = usize::from(script[at + 896]);
     state.fifo.count = usize::from(script[at + 897]);
     state.fifo.weight = usize::from(script[at + 898]);

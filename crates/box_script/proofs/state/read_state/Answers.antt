@@ -40,21 +40,21 @@ returns-in_err-state-2 c =
     let broken = bad.1 in
     rw (no_held s at bad.0) (search rules)
 
-pub returns-in_err-read_parts : goal.returns-in_err-read_parts
-returns-in_err-read_parts c =
-    let s = c.args.script.now in
-    let at = c.args.at in
-    let f = c.fresh-state.result in
-    let bad = judged-bad (firsts_within (length f.queue.places) 2 s (at + 899)) tt _ (sym c.read_parts.ensures.value ∙ c.in_err-read_parts.was) in
-    let broken = bad.1 in
-    rw (no-places s at (places-of f fresh_box s (at + 899) false c.fresh-state.ensures bad.0)) (search rules)
-
 pub returns-in_err-read_parts-2 : goal.returns-in_err-read_parts-2
 returns-in_err-read_parts-2 c =
     let s = c.args.script.now in
     let at = c.args.at in
     let f = c.fresh-state.result in
-    let bad = judged-bad (firsts_within (length f.fifo.entries) 1 s at) tt _ (sym c.read_parts-2.ensures.value ∙ c.in_err-read_parts-2.was) in
+    let bad = judged-bad (firsts_within (length f.queue.places) 2 s (at + 899)) tt _ (sym c.read_parts-2.ensures.value ∙ c.in_err-read_parts-2.was) in
+    let broken = bad.1 in
+    rw (no-places s at (places-of f fresh_box s (at + 899) false c.fresh-state.ensures bad.0)) (search rules)
+
+pub returns-in_err-read_parts : goal.returns-in_err-read_parts
+returns-in_err-read_parts c =
+    let s = c.args.script.now in
+    let at = c.args.at in
+    let f = c.fresh-state.result in
+    let bad = judged-bad (firsts_within (length f.fifo.entries) 1 s at) tt _ (sym c.read_parts.ensures.value ∙ c.in_err-read_parts.was) in
     let broken = bad.1 in
     rw (no-entries s at (entries-of f fresh_box s at false c.fresh-state.ensures bad.0)) (search rules)
 
@@ -63,14 +63,14 @@ returns c =
     let s = c.args.script.now in
     let at = c.args.at in
     let f = c.fresh-state.result in
-    let one = judged-good (firsts_within (length f.fifo.entries) 1 s at) tt _ (sym c.read_parts-2.ensures.value ∙ c.in_ok-read_parts-2.was) in
-    let two = judged-good (firsts_within (length f.queue.places) 2 s (at + 899)) tt _ (sym c.read_parts.ensures.value ∙ c.in_ok-read_parts.was) in
+    let one = judged-good (firsts_within (length f.fifo.entries) 1 s at) tt _ (sym c.read_parts.ensures.value ∙ c.in_ok-read_parts.was) in
+    let two = judged-good (firsts_within (length f.queue.places) 2 s (at + 899)) tt _ (sym c.read_parts-2.ensures.value ∙ c.in_ok-read_parts-2.was) in
     let three = judged-good (leb (get_or s (at + 1349) 0) 7) _ _ (sym c.try_from.ensures ∙ c.in_ok-state.was) in
     let four = judged-good (leb (get_or s (at + 1350) 0) 2) _ _ (sym c.read.ensures ∙ c.in_ok-state-2.was) in
-    let es : c.read_parts-2.new.parts ≡ tabulate 64 (λ i. entry_at s (at + 14 * i)) =
-    c.in_ok-read_parts-2.ensures.filled ∙ ap (λ (x : ReceiveBox). tabulate {A = Entry} (length x.fifo.entries) (λ i. entry_at s (at + 14 * i))) c.fresh-state.ensures in
-    let ps : c.read_parts.new.parts ≡ tabulate 32 (λ i. record_at s (at + 899 + 14 * i)) =
-    c.in_ok-read_parts.ensures.filled ∙ ap (λ (x : ReceiveBox). tabulate {A = Record} (length x.queue.places) (λ i. record_at s (at + 899 + 14 * i))) c.fresh-state.ensures in
+    let es : c.read_parts.new.parts ≡ tabulate 64 (λ i. entry_at s (at + 14 * i)) =
+    c.in_ok-read_parts.ensures.filled ∙ ap (λ (x : ReceiveBox). tabulate {A = Entry} (length x.fifo.entries) (λ i. entry_at s (at + 14 * i))) c.fresh-state.ensures in
+    let ps : c.read_parts-2.new.parts ≡ tabulate 32 (λ i. record_at s (at + 899 + 14 * i)) =
+    c.in_ok-read_parts-2.ensures.filled ∙ ap (λ (x : ReceiveBox). tabulate {A = Record} (length x.queue.places) (λ i. record_at s (at + 899 + 14 * i))) c.fresh-state.ensures in
     ap gives
     (state-read s at _ _ _ _ _ _ _ _ _ _ es ps c.from-state.ensures c.from-state-2.ensures c.from-state-3.ensures c.from-state-4.ensures c.from-state-5.ensures
     three.1 four.1 c.words_at-state.ensures)
